@@ -1,5 +1,6 @@
 -- No timeline loses less than the bound of a cut, but for roundings.
-use Rattle.std.proofs.Common.{◌≡◌, ℕ, zero, suc, ◌+◌, ◌-◌, ◌*◌, ◌<◌, ◌≤◌, Bool, true, false, cond, nat_lt, nat_le, ◌&&◌, ◌==◌, List}
+use Rattle.std.proofs.Common.{◌≡◌, ℕ, zero, suc, ◌+◌, ◌-◌, ◌*◌, ◌<◌, ◌≤◌, Bool, true, false, cond, List}
+use Rattle.std.proofs.Common.{nat_lt, nat_le, ◌&&◌, ◌==◌}
 use Rattle.std.proofs.Common.{[], ◌∷◌, length, get_or, Some, None, pos, refl, sym, ap, ◌∙◌, subst, inl, inr, arith}
 use Rattle.std.proofs.Common.{length-append}
 use Rattle.std.specs.Prelude.{Contains, IsSome, is_some, filter, ◌≤ℤ◌}
@@ -222,7 +223,8 @@ module _ (m : MissionRows) (edges : List ℕ) (q : Dumping) (ds : List Stretch) 
         let kept = kept_within m edges q e h are.times of exact each d (omega (arith, is.store, rows)) is.first is.order
         (omega (arith, is.last, many, are.times.some, is.first, is.order)) (rw many refl) in
         let range = range_with_len 1 (length edges - 1) in
-        let lost_same : sum_by (loses_in d) (steps q) ≡ sum_by (λ t. lost_in t (store_of q d)) (filter (covers d) range) =
+        let lost_same : sum_by (loses_in d) (steps q)
+        ≡ sum_by (λ t. lost_in t (store_of q d)) (filter (covers d) range) =
         rw many (sym (sum_by-filter (λ t. lost_in t (store_of q d)) (covers d) range)) in
         let inner_same = sum_by_range_same (λ t. leaves q ds cut.stretches t (sent_in t) d)
         (λ t. cond (covers d t) (sent_in t (store_of q d)) 0) 1 (length edges - 1)
@@ -244,7 +246,8 @@ module _ (m : MissionRows) (edges : List ℕ) (q : Dumping) (ds : List Stretch) 
         omega (
           arith,
           all,
-          mul-le e.parts (units + (held_sum q ds + leaving_sum q ds ts)) e.parts (coming_sum q ds) (omega arith) come_in,
+          mul-le e.parts (units + (held_sum q ds + leaving_sum q ds ts)) e.parts (coming_sum q ds) (omega arith)
+              come_in,
           sum_by_times e.parts (coming q) ds,
           sum_by-add (λ d. lose d + leave d + e.parts * held q d) (λ d. e.parts * stretch_roundings d) ds,
           sum_by-add (λ d. lose d + leave d) (λ d. e.parts * held q d) ds,

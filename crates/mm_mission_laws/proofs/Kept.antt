@@ -197,7 +197,8 @@ module _ (m : MissionRows) (edges : List ℕ) (q : Dumping) (e : Exact) (h : IsM
         come_most e.parts (come_divisor unit_octets (store_at m s)) (counted m (Come s) (slice_index edges i))
         (counted m (Come s) (slice_index edges j)) (come_octets m s (slice_index edges i))
         (come_octets m s (slice_index edges j)) (e.come s (at i)) (e.come s (at j)) (in_stretch (arrivals q s))
-        (divisor_some (store_at m s) (fits_at m s h below)) (observations_rise m s h (slice_index edges i) below).0.least
+        (divisor_some (store_at m s) (fits_at m s h below))
+        (observations_rise m s h (slice_index edges i) below).0.least
         (observations_rise m s h (slice_index edges j) below).0.most (omega (arith, all, before, after))
         (is i (omega (arith, last, order))) (is j last)
 
@@ -217,7 +218,8 @@ module _ (m : MissionRows) (edges : List ℕ) (q : Dumping) (e : Exact) (h : IsM
         let some = unit_some (store_at m s) (fits_at m s h below) in
         let is = start_is m edges q (λ _ _. 0) s h below of in
         let up = up_most u some (store_at m s).start in
-        let fewer = mul-le (start_in (store_at m s)) u (div_ceil (store_at m s).start u) u (omega arith) (omega arith) in
+        let fewer = mul-le (start_in (store_at m s)) u (div_ceil (store_at m s).start u) u (omega arith)
+        (omega arith) in
         rw is (up_within e.parts u (store_at m s).start (start_in (store_at m s)) (e.start s) some
         (omega (arith, up, fewer)) (exact.start s below))
 
@@ -236,7 +238,8 @@ module _ (m : MissionRows) (edges : List ℕ) (q : Dumping) (e : Exact) (h : IsM
     ]
 
     -- what comes in is sent, lost or held
-    pub kept_within : sum_by (arrivals q s) (filter (covers d) (range_with_len 1 (length edges - 1))) ≡ sum_by (arrivals q s) (filter (covers d) (range_with_len 1 (length q.windows)))
+    pub kept_within : sum_by (arrivals q s) (filter (covers d) (range_with_len 1 (length edges - 1)))
+        ≡ sum_by (arrivals q s) (filter (covers d) (range_with_len 1 (length q.windows)))
         → e.parts * coming q d
         ≤ in_stretch (in_step m edges e.times are exact.times each (loses e s))
         + in_stretch (in_step m edges e.times are exact.times each (e.sent s)) + e.parts * held q d
@@ -244,7 +247,8 @@ module _ (m : MissionRows) (edges : List ℕ) (q : Dumping) (e : Exact) (h : IsM
     kept_within same =
         let i = at (d.first - 1) in
         let j = at d.last in
-        let rising = at_rises m edges e.times are exact.times each (d.first - 1) d.last (omega (arith, first, order)) last in
+        let rising = at_rises m edges e.times are exact.times each (d.first - 1) d.last (omega (arith, first, order))
+        last in
         let there : i + (j - i) ≡ j = omega (arith, rising) in
         let grown = rw there at (grows_by e s i (j - i)) in
         let room = fits e s j (omega (arith, rising)) in

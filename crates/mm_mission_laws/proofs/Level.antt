@@ -21,7 +21,8 @@ use Rattle.mm_mission.specs.Timeline.{is_in_pass}
 use Rattle.mm_mission.specs.Laws.{IsRoundedUp, over, AreWithin, lost_in}
 use Rattle.mm_mission.proofs.Rising.{rises_by}
 use Rattle.mm_mission.proofs.Grown.{steps_grow}
-use Rattle.mm_mission.proofs.Summed.{fits_at, units_rise, packets_rise, observations_rise, arrivals_add_up, packets_add_up}
+use Rattle.mm_mission.proofs.Summed.{fits_at, units_rise, packets_rise, observations_rise, arrivals_add_up}
+use Rattle.mm_mission.proofs.Summed.{packets_add_up}
 use Rattle.mm_mission.proofs.Stepped.{step_at, held_at}
 use Rattle.mm_mission.proofs.Passed.{in_some_pass, some_sent}
 use Rattle.mm_mission.proofs.Arrived.{all_come_even}

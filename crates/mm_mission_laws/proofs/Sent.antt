@@ -1,5 +1,6 @@
 -- What a timeline sends between two edges is within windows and limits, but for less than one unit.
-use Rattle.std.proofs.Common.{◌≡◌, ℕ, zero, suc, ◌+◌, ◌-◌, ◌*◌, ◌<◌, ◌≤◌, Bool, true, false, cond, nat_le, ◌&&◌, List, length}
+use Rattle.std.proofs.Common.{◌≡◌, ℕ, zero, suc, ◌+◌, ◌-◌, ◌*◌, ◌<◌, ◌≤◌, Bool, true, false, cond, List, length}
+use Rattle.std.proofs.Common.{nat_le, ◌&&◌}
 use Rattle.std.proofs.Common.{[], get_or, Option, ap, ◌∙◌, inl, inr, arith}
 use Rattle.std.specs.Prelude.{Contains, IsTrue, filter, slice_index, ◌⊎◌}
 use Rattle.std.specs.List.{sum_by, range_with_len}
@@ -121,8 +122,10 @@ module _ (m : MissionRows) (edges : List ℕ) (q : Dumping) (e : Exact) (h : IsM
           let rooms = (rooms_add_up m edges q p channel (t - 1) 1 h are.times of among has lies).0.least in
           let one : over (room q channel) (t - 1) 1 ≡ room q channel t =
           sum_by-cons (room q channel) (t - 1 + 1) [] ∙ ap (λ k. room q channel k + 0) next ∙ omega arith in
-          let some = pace_on_some m channel p (All-contains (λ p. IsTrue (is_pass m.lasts p)) m.passes p h.passes among) in
-          let kept = run p channel i n among within_times (omega (arith, begin_is, begin)) (omega (arith, end_is, end)) in
+          let some = pace_on_some m channel p
+          (All-contains (λ p. IsTrue (is_pass m.lasts p)) m.passes p h.passes among) in
+          let kept = run p channel i n among within_times (omega (arith, begin_is, begin))
+          (omega (arith, end_is, end)) in
           let long : slice_index e.times (i + n) - slice_index e.times i ≡ time_of edges (t - 1) 1 =
           omega (arith, begin_is, end_is, ap (slice_index edges) next) in
           within_room e.parts (over (sent_on m e channel) i n) f.divisor (f.octets * time_of edges (t - 1) 1)
@@ -187,7 +190,8 @@ module _ (m : MissionRows) (edges : List ℕ) (q : Dumping) (e : Exact) (h : IsM
             let zero : over (sent_on m e channel) i n ≡ 0 =
             sum_by_range_zeros (sent_on m e channel) (i + 1) n
             (λ k low high.
-            sum_by_zeros (λ s. e.sent s k) (filter (λ s. is_on channel (store_at m s)) (range_with_len 0 (length m.stores)))
+            sum_by_zeros (λ s. e.sent s k)
+            (filter (λ s. is_on channel (store_at m s)) (range_with_len 0 (length m.stores)))
             (λ j d inside. quiet none _ k (omega arith) (omega arith))) in
             rw none (omega (arith, zero))
       ]

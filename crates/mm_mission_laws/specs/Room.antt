@@ -19,8 +19,8 @@ pub record HaveBegun (edges : List ℕ) (x : ℕ → ℕ → ℕ) (s t time unit
       + x s t * (time - slice_index edges (t - 1))
       ≤ units * (slice_index edges t - slice_index edges (t - 1))
 
--- at each time, what a store held at first and the units that have come or are being received, less those that have been
--- sent or are being sent, are at most its size and what the plan loses up to the end of the step
+-- at each time, what a store held at first and the units that have come or are being received, less those that have
+-- been sent or are being sent, are at most its size and what the plan loses up to the end of the step
 abbrev pub UnitsHaveRoom : Type 0
 UnitsHaveRoom = (m : MissionRows) (edges : List ℕ) (q : Dumping) (x : ℕ → ℕ → ℕ) (s t time units : ℕ) → IsMission m
     → AreEdges m edges → IsProblemOf m edges q → AreWithin m edges q x → s < length m.stores → 1 ≤ t → t < length edges

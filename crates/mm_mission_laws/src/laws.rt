@@ -2,9 +2,9 @@
 ghost use Rattle.mm_mission_laws.specs.Lost.{NoTimelineLosesLess};
 ghost use Rattle.mm_mission_laws.specs.Room.{UnitsHaveRoom, PacketsHaveRoom};
 
-/// At each time in a step, what a store held as the mission began and what has come by then, less what has been sent, is
-/// at most its size and what the plan has lost as the step ends. So no store is ever fuller than its size, but for what the
-/// plan loses.
+/// At each time in a step, what a store held as the mission began and what has come by then, less what has been sent,
+/// is at most its size and what the plan has lost as the step ends. So no store is ever fuller than its size, but for
+/// what the plan loses.
 pub fn units_have_room()
     ensures { UnitsHaveRoom }
 {}
