@@ -63,7 +63,9 @@ impl Fault {
                 row.saturating_add(1)
             ),
             mm_mission::Fault::TooManySteps => {
-                f.write_str("more than 256 steps: too many begins and ends of passes and observations")
+                f.write_str(
+                    "more than 256 steps: too many begins and ends of passes and observations",
+                )
             }
             mm_mission::Fault::Problem {
                 fault: mm_problem::Fault::Limit { name },
