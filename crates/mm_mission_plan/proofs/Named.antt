@@ -1,6 +1,6 @@
 -- The names of passes, one after the other.
-use Rattle.std.proofs.Common.{◌≡◌, ◌∙◌, ℕ, ◌+◌, ◌<◌, Bool, true, false, List, [], ◌∷◌, ◌++◌, String, Global, string_bytes}
-use Rattle.std.proofs.Common.{refl, ap, ap₂, sym, subst, arith, length, get_or, take}
+use Rattle.std.proofs.Common.{◌≡◌, ◌∙◌, ℕ, ◌+◌, ◌<◌, true, false, List, [], ◌∷◌, ◌++◌, String, Global, string_bytes}
+use Rattle.std.proofs.Common.{ap, ap₂, sym, arith, length, get_or, take}
 use Rattle.std.specs.Prelude.{map}
 use Rattle.std.specs.List.{count_by, enumerate_from}
 use Rattle.std.proofs.lemmas.List.{map-append, length-map, get_or-map, take_more}

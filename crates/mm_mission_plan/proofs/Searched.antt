@@ -1,11 +1,12 @@
 -- The search for the least unit.
-use Rattle.std.proofs.Common.{◌≡◌, ◌≢◌, ℕ, ◌+◌, ◌-◌, ◌*◌, ◌<◌, ◌≤◌, Bool, true, false, Result, Ok, Err, refl, ap, subst, sym}
-use Rattle.std.proofs.Common.{◌∙◌, inl, inr, arith}
+use Rattle.std.proofs.Common.{◌≡◌, ◌≢◌, ℕ, ◌+◌, ◌-◌, ◌*◌, ◌<◌, ◌≤◌, Bool, true, false, Result, Ok, Err}
+use Rattle.std.proofs.Common.{refl, ap, subst, sym}
+use Rattle.std.proofs.Common.{inl, inr, arith}
 use Rattle.std.specs.Prelude.{◌⊎◌, IsTrue}
 use Rattle.mm_mission.specs.declared.limits.TheConstants.{MAX_UNIT}
 use Rattle.mm_mission_exact.specs.declared.rows.Rows.{Rows}
 use Rattle.mm_mission_plan.specs.Faults.{is_small}
-use Rattle.mm_mission_plan.specs.Units.{is_too_small, IsOutcome, IsRefusal, IsTooSmall, IsTried, IsFound, IsLeast}
+use Rattle.mm_mission_plan.specs.Units.{is_too_small, IsOutcome, IsTooSmall, IsTried, IsFound, IsLeast}
 use Rattle.mm_mission_plan.specs.Units.{IsLeastFault}
 use Rattle.mm_mission_plan.specs.declared.fault.Fault.{Fault}
 use Rattle.mm_mission_plan.specs.declared.fault.Fault.TheVariants.{NoMemory}

@@ -1,6 +1,6 @@
 -- The stages from rows to a problem, and their faults.
 use Rattle.std.proofs.Common.{◌≡◌, ◌≢◌, ℕ, Result, Ok, Err, refl, ap, subst, ◌∙◌, length, inl, inr, ◌+◌, ◌<◌, List}
-use Rattle.mm_base.specs.Reading.{◌>>=◌, Gives, test}
+use Rattle.mm_base.specs.Reading.{Gives, test}
 use Rattle.mm_base.proofs.ReadingSteps.{bind_ok, ok_same}
 use Rattle.mm_base.specs.declared.limits.TheConstants.{MAX_STEPS}
 use Rattle.mm_mission.specs.Edges.{AreEdges}

@@ -4,8 +4,8 @@ use mm_mission_text::{Column, MissionFault};
 use std::alloc::{AllocError, AllocFailed};
 use std::fmt;
 
-/// Why a mission is not planned: its first fault, in this order; of files, first of stores, then of stations, passes and
-/// observations.
+/// Why a mission is not planned: its first fault, in this order; of files, first of stores, then of stations, passes
+/// and observations.
 #[derive(Debug, Drop)]
 pub enum Fault {
     NoMemory,

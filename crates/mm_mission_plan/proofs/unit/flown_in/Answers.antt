@@ -1,4 +1,4 @@
-use Rattle.std.proofs.Common.{◌≡◌, ◌∙◌, ◌+◌, ◌<◌, ap, subst, sym, length}
+use Rattle.std.proofs.Common.{◌∙◌, ◌+◌, ◌<◌, ap, subst, sym, length}
 use Rattle.mm_utc.specs.declared.moment.TheConstants.{MOMENTS}
 use Rattle.mm_mission.specs.Mission.{MissionRows}
 use Rattle.mm_mission_exact.specs.Exact.{ExactRows, seen}

@@ -12,8 +12,8 @@ returns-in-Ok-clause-unit c =
     }
 
 pub returns-in-Err-clause-refused : goal.returns-in-Err-clause-refused
-returns-in-Err-clause-refused c = λ other. (
-  c.requires,
-  least_fault c.args.rows.now c.halved-high.result c.halved-high.ensures.found c.halved-high.ensures.next c.in-Err.fault c.in-Err.is
-      other,
-)
+returns-in-Err-clause-refused c = λ other.
+    let found = c.halved-high in (
+      c.requires,
+      least_fault c.args.rows.now found.result found.ensures.found found.ensures.next c.in-Err.fault c.in-Err.is other,
+    )
