@@ -4,7 +4,7 @@ use Rattle.std.proofs.Common.{refl, sym, ap, ap₂, subst, ◌∙◌, inl, inr, 
 use Rattle.std.specs.Int.{bit_at}
 use Rattle.std.proofs.lemmas.Bool.{cases_eq, cases_lt}
 use Rattle.std.proofs.lemmas.Nat.{shr_split, pow_pos}
-use Rattle.std.proofs.lemmas.Nat.Bits.{bit_at_cat_low, bit_at_cat_high, same_from_bits, same_from_bits_below}
+use Rattle.std.proofs.lemmas.Nat.Bits.{bit_at_cat_low, same_from_bits, same_from_bits_below}
 use lib.Bits.{bit_xor, xor_assoc, xor_shr, xor_mod, xor_zero_r, xor_self, xor_lt}
 use Rattle.mm_blocks.specs.Check.{generator, ones, next_bit, divided, number_of, remainder_from, crc32c}
 use Rattle.mm_blocks.specs.Laws.{AreOctets, DifferInBurst}
@@ -29,6 +29,7 @@ next_bit-pos e some small = elim (cases_eq (e % 2) 0) [ inl even ↦ when_even e
         let is : bit_xor (e / 2) (e % 2 * generator) ≡ e / 2 =
         ap (λ (x : ℕ). bit_xor (e / 2) (x * generator)) even ∙ xor_zero_r (e / 2) in
         (omega arith, omega arith)
+
     when_odd : e % 2 ≡ 1 → (0 < bit_xor (e / 2) (e % 2 * generator)) × (bit_xor (e / 2) (e % 2 * generator) < 2 ^ 32)
     when_odd odd =
         let is : bit_xor (e / 2) (e % 2 * generator) ≡ bit_xor (e / 2) generator =
@@ -54,7 +55,7 @@ number_of-injective (x ∷ a) (y ∷ b) long p q same =
     let first : x ≡ y = omega (arith, p 0, q 0) in
     let others : number_of a ≡ number_of b = omega (arith, p 0, q 0) in
     ap₂ (λ (z : ℕ) (c : List ℕ). z ∷ c) first
-      (number_of-injective a b (omega arith) (λ i. p (suc i)) (λ i. q (suc i)) others)
+    (number_of-injective a b (omega arith) (λ i. p (suc i)) (λ i. q (suc i)) others)
 
 -- one bit of a number's parts
 low_bit : (n k i : ℕ) → i < k → bit_at (n % 2 ^ k) i ≡ bit_at n i
@@ -70,10 +71,10 @@ burst_of : (first a b : ℕ) → ((i : ℕ) → i < first → bit_at a i ≡ bit
 burst_of first a b before after =
     let low : a % 2 ^ first ≡ b % 2 ^ first =
     same_from_bits_below first (a % 2 ^ first) (b % 2 ^ first) (mod-lt a (pow_pos first)) (mod-lt b (pow_pos first))
-      (λ i less. low_bit a first i less ∙ before i less ∙ sym (low_bit b first i less)) in
+    (λ i less. low_bit a first i less ∙ before i less ∙ sym (low_bit b first i less)) in
     let high : a / 2 ^ (first + 32) ≡ b / 2 ^ (first + 32) =
     same_from_bits (a / 2 ^ (first + 32)) (b / 2 ^ (first + 32))
-      (λ i. high_bit a (first + 32) i ∙ after (first + 32 + i) (omega arith) ∙ sym (high_bit b (first + 32) i)) in
+    (λ i. high_bit a (first + 32) i ∙ after (first + 32 + i) (omega arith) ∙ sym (high_bit b (first + 32) i)) in
     let none_low : bit_xor a b % 2 ^ first ≡ 0 =
     xor_mod a b first ∙ ap (λ (x : ℕ). bit_xor x (b % 2 ^ first)) low ∙ xor_self (b % 2 ^ first) in
     let none_high : bit_xor a b / 2 ^ first / 2 ^ 32 ≡ 0 =
@@ -114,10 +115,10 @@ bursts_found first a b p q burst same =
     ∙ xor_self (remainder_from ones b) in
     let within : d < 2 ^ (8 * length a) =
     xor_lt (8 * length a) (number_of a) (number_of b) (number_of-below a p)
-      (subst (λ (n : ℕ). number_of b < 2 ^ (8 * n)) (sym burst.same_length) (number_of-below b q)) in
+    (subst (λ (n : ℕ). number_of b < 2 ^ (8 * n)) (sym burst.same_length) (number_of-below b q)) in
     let some : 0 < e = elim (cases_eq e 0) [
       | inl none_left ↦ absurd (burst.differ (number_of-injective a b burst.same_length p q
-        (xor_none (number_of a) (number_of b) (parts.0 ∙ ap (λ (x : ℕ). x * 2 ^ first) none_left ∙ zero-mul (2 ^ first)))))
+          (xor_none (number_of a) (number_of b) (parts.0 ∙ ap (λ (x : ℕ). x * 2 ^ first) none_left ∙ zero-mul (2 ^ first)))))
       | inr other ↦ pos_of_ne-zero other
     ] in
     let left : 0 < divided (8 * length a) (e * 2 ^ first) =

@@ -1,5 +1,5 @@
 -- The division of a check is linear, and octets can pass one by one or many at once.
-use Rattle.std.proofs.Common.{◌≡◌, ◌≢◌, ℕ, zero, suc, ◌+◌, ◌*◌, ◌/◌, ◌%◌, ◌^◌, ◌<◌, ◌≤◌, List, [], ◌∷◌, ◌++◌, length, get_or}
+use Rattle.std.proofs.Common.{◌≡◌, ℕ, zero, suc, ◌+◌, ◌*◌, ◌/◌, ◌%◌, ◌^◌, ◌<◌, List, [], ◌∷◌, ◌++◌, length, get_or}
 use Rattle.std.proofs.Common.{refl, sym, ap, ap₂, ◌∙◌, arith, pow-suc, pow-add, shr-shr, mul_assoc, length-append}
 use Rattle.std.proofs.lemmas.Nat.{shr_split}
 use Rattle.std.specs.Int.{w64, from_le_bytes}
@@ -105,13 +105,13 @@ remainder_from-append register a b small =
     ∙ xor_comm (number_of b * 2 ^ (8 * length a)) (number_of a) in
     let bits : 8 * length (a ++ b) ≡ 8 * length a + 8 * length b = omega (arith, length-append a b) in
     let grouped : bit_xor register (number_of (a ++ b))
-        ≡ bit_xor (bit_xor register (number_of a)) (number_of b * 2 ^ (8 * length a)) =
+    ≡ bit_xor (bit_xor register (number_of a)) (number_of b * 2 ^ (8 * length a)) =
     ap (bit_xor register) number ∙ sym (xor_assoc register (number_of a) (number_of b * 2 ^ (8 * length a))) in
     ap (divided (8 * length (a ++ b))) grouped
     ∙ divided-more (8 * length a) (8 * length b) (8 * length (a ++ b)) _ bits
     ∙ ap (divided (8 * length b))
-      (divided-xor (8 * length a) (bit_xor register (number_of a)) (number_of b * 2 ^ (8 * length a))
-      ∙ ap (bit_xor (remainder_from register a)) (divided-shifted (8 * length a) (number_of b)))
+    (divided-xor (8 * length a) (bit_xor register (number_of a)) (number_of b * 2 ^ (8 * length a))
+    ∙ ap (bit_xor (remainder_from register a)) (divided-shifted (8 * length a) (number_of b)))
 
 -- an octet of a number passes before those above it
 pub octet-passes : (j n bits : ℕ)
@@ -124,9 +124,9 @@ octet-passes j n bits =
 -- eight octets pass one after the other
 pub eight-pass : (bits : ℕ) → divided 64 bits
     ≡ bit_xor (divided 64 (bits % 2 ^ 8)) (bit_xor (divided 56 (bits / 2 ^ 8 % 2 ^ 8))
-      (bit_xor (divided 48 (bits / 2 ^ 16 % 2 ^ 8)) (bit_xor (divided 40 (bits / 2 ^ 24 % 2 ^ 8))
-      (bit_xor (divided 32 (bits / 2 ^ 32 % 2 ^ 8)) (bit_xor (divided 24 (bits / 2 ^ 40 % 2 ^ 8))
-      (bit_xor (divided 16 (bits / 2 ^ 48 % 2 ^ 8)) (divided 8 (bits / 2 ^ 56))))))))
+    (bit_xor (divided 48 (bits / 2 ^ 16 % 2 ^ 8)) (bit_xor (divided 40 (bits / 2 ^ 24 % 2 ^ 8))
+    (bit_xor (divided 32 (bits / 2 ^ 32 % 2 ^ 8)) (bit_xor (divided 24 (bits / 2 ^ 40 % 2 ^ 8))
+    (bit_xor (divided 16 (bits / 2 ^ 48 % 2 ^ 8)) (divided 8 (bits / 2 ^ 56))))))))
 eight-pass bits =
     divided-split 8 56 64 bits (bits / 2 ^ 8) (bits % 2 ^ 8) refl (omega arith) (sym (shr_split bits 8))
     ∙ ap (bit_xor (divided 64 (bits % 2 ^ 8))) (octet-passes 8 48 bits
@@ -173,15 +173,15 @@ after_one_is register octet small rest =
     let low : bit_xor register octet % 2 ^ 8 < 2 ^ 8 = omega arith in
     let one : number_of (octet ∷ []) ≡ octet = omega arith in
     let passed : divided 8 (bit_xor register octet)
-        ≡ bit_xor (divided 8 (bit_xor register octet % 2 ^ 8)) (register / 2 ^ 8) =
+    ≡ bit_xor (divided 8 (bit_xor register octet % 2 ^ 8)) (register / 2 ^ 8) =
     divided-split 8 0 8 (bit_xor register octet) (register / 2 ^ 8) (bit_xor register octet % 2 ^ 8) refl low
-      (sym (shr_split (bit_xor register octet) 8) ∙ ap (λ (x : ℕ). x * 2 ^ 8 + bit_xor register octet % 2 ^ 8) high) in
+    (sym (shr_split (bit_xor register octet) 8) ∙ ap (λ (x : ℕ). x * 2 ^ 8 + bit_xor register octet % 2 ^ 8) high) in
     ap (λ (x : ℕ). remainder_from x rest) (sym passed ∙ ap (λ (x : ℕ). divided 8 (bit_xor register x)) (sym one))
     ∙ sym (remainder_from-append register (octet ∷ []) rest (λ i. one_small i))
-      where
-        one_small : (i : ℕ) → get_or (octet ∷ []) i 0 < 256
-        one_small zero = small
-        one_small (suc i) = omega arith
+  where
+    one_small : (i : ℕ) → get_or (octet ∷ []) i 0 < 256
+    one_small zero = small
+    one_small (suc i) = omega arith
 
 -- nothing more leaves the register as it is
 pub remainder_from-nil : (register : ℕ) → remainder_from register [] ≡ register

@@ -1,6 +1,6 @@
 -- Where the blocks of an array lie, and what a write or a new chunk changes.
-use Rattle.std.proofs.Common.{◌≡◌, ◌≢◌, ◌⊎◌, ◌↔◌, ℕ, zero, suc, ◌+◌, ◌-◌, ◌*◌, ◌/◌, ◌%◌, ◌<◌, ◌≤◌, min, List, [], ◌∷◌, ◌++◌, length, set, slice_get}
-use Rattle.std.proofs.Common.{Option, Some, None, IsSome, Vec, Global, refl, sym, ap, ◌∙◌, inl, inr, arith, length-set}
+use Rattle.std.proofs.Common.{◌≡◌, ◌≢◌, ℕ, zero, suc, ◌*◌, ◌<◌, ◌≤◌, List, [], ◌∷◌, ◌++◌, length, set, slice_get}
+use Rattle.std.proofs.Common.{Option, Some, IsSome, Vec, Global, refl, sym, ap, ◌∙◌, inl, inr, arith, length-set}
 use Rattle.std.specs.Option.{option_and_then}
 use Rattle.std.proofs.lemmas.Bool.{cases_eq, cases_lt, true≢false}
 use Rattle.std.proofs.lemmas.Option.{slice_get_within, slice_get_past}
@@ -109,6 +109,7 @@ module _ (chunks : List (Vec Block Global)) (chunk place : ℕ) (old new : Vec B
     where
       elsewhere : i ≢ chunk → block_in (set chunks chunk new) i j ≡ block_in chunks i j
       elsewhere apart = ap (option_and_then (λ blocks. slice_get blocks.items j)) (slice_get-set_other chunks chunk new i apart)
+
       in_chunk : i ≡ chunk → block_in (set chunks chunk new) i j ≡ block_in chunks i j
       in_chunk same =
           let at_chunk : slice_get (set chunks chunk new) chunk ≡ Some new =
@@ -119,12 +120,12 @@ module _ (chunks : List (Vec Block Global)) (chunk place : ℕ) (old new : Vec B
   pub chunks-written : (layout : Layout) (room : ℕ) → AreChunks layout room chunks → AreChunks layout room (set chunks chunk new)
   chunks-written layout room are i blocks at = elim (cases_eq i chunk) [
     | inl same ↦
-      let at_chunk : slice_get (set chunks chunk new) chunk ≡ Some new =
-      slice_get-set_same chunks chunk new (slice_get_within chunks chunk old here) in
-      let written : Some new ≡ Some blocks = sym at_chunk ∙ ap (slice_get (set chunks chunk new)) (sym same) ∙ at in
-      let one : new ≡ blocks = cc in
-      ap (λ (v : Vec Block Global). length v.items) (sym one) ∙ ap length is ∙ length-set old.items place block
-      ∙ are chunk old here ∙ ap (chunk_len layout room) (sym same)
+        let at_chunk : slice_get (set chunks chunk new) chunk ≡ Some new =
+        slice_get-set_same chunks chunk new (slice_get_within chunks chunk old here) in
+        let written : Some new ≡ Some blocks = sym at_chunk ∙ ap (slice_get (set chunks chunk new)) (sym same) ∙ at in
+        let one : new ≡ blocks = cc in
+        ap (λ (v : Vec Block Global). length v.items) (sym one) ∙ ap length is ∙ length-set old.items place block
+        ∙ are chunk old here ∙ ap (chunk_len layout room) (sym same)
     | inr apart ↦ are i blocks (sym (slice_get-set_other chunks chunk new i apart) ∙ at)
   ]
 
@@ -134,11 +135,11 @@ pub chunks-more : (layout : Layout) (room : ℕ) (chunks : List (Vec Block Globa
 chunks-more layout room chunks new are len i blocks at = elim (cases_lt i (length chunks)) [
   | inl less ↦ are i blocks (sym (slice_get-push chunks new i less) ∙ at)
   | inr past ↦
-    let within = slice_get_within (chunks ++ new ∷ []) i blocks at in
-    let last : i ≡ length chunks = omega (arith, length_push chunks new) in
-    let same : Some new ≡ Some blocks = sym (slice_get-last chunks new i last) ∙ at in
-    let one : new ≡ blocks = cc in
-    ap (λ (v : Vec Block Global). length v.items) (sym one) ∙ len ∙ ap (chunk_len layout room) (sym last)
+      let within = slice_get_within (chunks ++ new ∷ []) i blocks at in
+      let last : i ≡ length chunks = omega (arith, length_push chunks new) in
+      let same : Some new ≡ Some blocks = sym (slice_get-last chunks new i last) ∙ at in
+      let one : new ≡ blocks = cc in
+      ap (λ (v : Vec Block Global). length v.items) (sym one) ∙ len ∙ ap (chunk_len layout room) (sym last)
 ]
 
 pub block_in-more : (chunks : List (Vec Block Global)) (new : Vec Block Global) (i j : ℕ) → IsSome (block_in chunks i j)

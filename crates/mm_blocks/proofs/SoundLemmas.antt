@@ -1,6 +1,6 @@
 -- What a sound block's fields are, and that a change of one of them is found.
-use Rattle.std.proofs.Common.{◌≡◌, ◌≢◌, ℕ, ◌+◌, ◌<◌, ◌≤◌, Bool, true, false, ◌&&◌, cond, nat_le, ◌==◌, None, List, refl, sym, ◌∙◌, arith}
-use Rattle.std.proofs.lemmas.Bool.{eqb-true, leb-true, ne_eqb, eq-eqb}
+use Rattle.std.proofs.Common.{◌≡◌, ◌≢◌, ℕ, ◌+◌, Bool, true, false, ◌&&◌, nat_le, ◌==◌, None, refl, sym, ◌∙◌, arith}
+use Rattle.std.proofs.lemmas.Bool.{eqb-true, ne_eqb}
 use Rattle.mm_packet.specs.declared.block.TheConstants.{BLOCK}
 use Rattle.mm_blocks.specs.Block.{check_of, packet_in, is_sound, read_of}
 use Rattle.mm_blocks.specs.Laws.{AreOctets, DifferInBurst, ChangesOfRowAreFound, text_of}

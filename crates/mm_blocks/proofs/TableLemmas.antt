@@ -1,5 +1,5 @@
 -- The tables of a check are held against the division at each octet, by computing.
-use Rattle.std.proofs.Common.{◌≡◌, ℕ, zero, suc, ◌+◌, ◌*◌, ◌<◌, Bool, true, false, ◌&&◌, eqb, List, [], get_or, refl, arith, inl, inr, eqb-true}
+use Rattle.std.proofs.Common.{◌≡◌, ℕ, zero, suc, ◌+◌, ◌*◌, ◌<◌, Bool, true, false, ◌&&◌, eqb, [], get_or, refl, arith, inl, inr, eqb-true}
 use Rattle.std.proofs.lemmas.Bool.{cases_eq}
 use Rattle.mm_blocks.specs.Check.{next_bit, divided}
 use Rattle.mm_blocks.specs.declared.check.TheConstants.{TABLES}

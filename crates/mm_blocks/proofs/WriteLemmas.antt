@@ -1,5 +1,5 @@
 -- What a write to a place does to an array of blocks.
-use Rattle.std.proofs.Common.{◌≡◌, ◌≢◌, ℕ, ◌+◌, ◌-◌, ◌<◌, ◌≤◌, true, false, ◌==◌, List, ◌++◌, length, take, drop, set, slice_get, Option, Some, None, IsSome}
+use Rattle.std.proofs.Common.{◌≡◌, ◌≢◌, ℕ, ◌+◌, ◌-◌, ◌<◌, ◌≤◌, true, ◌==◌, List, ◌++◌, length, take, drop, set, slice_get, Some, IsSome}
 use Rattle.std.proofs.Common.{Vec, Global, refl, sym, ap, ◌∙◌, inl, inr, arith, le-leb, eq-eqb, get_or, nat_le}
 use Rattle.std.specs.Option.{option_and_then}
 use Rattle.std.proofs.lemmas.Bool.{cases_lt, true≢false}
@@ -8,7 +8,7 @@ use Rattle.std.proofs.lemmas.Option.{slice_get-get_or, slice_get_past}
 use Rattle.mm_packet.specs.declared.block.TheConstants.{BLOCK}
 use Rattle.mm_blocks.specs.declared.block.Block.{Block}
 use Rattle.mm_blocks.specs.declared.layout.Layout.{Layout}
-use Rattle.mm_blocks.specs.Block.{check_of, packet_in, read_of, written}
+use Rattle.mm_blocks.specs.Block.{check_of, read_of, written}
 use Rattle.mm_blocks.specs.Layout.{chunk_of, place_in, block_in, AreChunks}
 use Rattle.mm_blocks.proofs.LayoutLemmas.{has_place, one_place, slice_get-some, block_in-here, block_in-other, chunks-written}
 
@@ -52,10 +52,10 @@ module _ (layout : Layout) (room : ℕ) (chunks : List (Vec Block Global)) (plac
       → option_and_then read_of (block_in (set chunks i new) (chunk_of layout place) (place_in layout place)) ≡ Some (time, packet)
   is_written fits =
       rw (← chunk_is, ← place_is, block_in-here chunks i j old new (written time packet before.0) here (writes before.0 before.1) block_within)
-        (written_is_read time packet before.0 fits)
+      (written_is_read time packet before.0 fits)
 
   pub others_stay : (other : ℕ) → other ≢ place
       → block_in (set chunks i new) (chunk_of layout other) (place_in layout other) ≡ block_in chunks (chunk_of layout other) (place_in layout other)
   others_stay other apart =
       block_in-other chunks i j old new (written time packet before.0) here (writes before.0 before.1) (chunk_of layout other) (place_in layout other)
-        (λ same same_place. apart (one_place layout other place (same ∙ chunk_is) (same_place ∙ place_is)))
+      (λ same same_place. apart (one_place layout other place (same ∙ chunk_is) (same_place ∙ place_is)))

@@ -1,5 +1,5 @@
 -- What an array of blocks holds.
-use Rattle.std.specs.Prelude.{◌≡◌, ◌≢◌, ℕ, ◌<◌, List, Option, Some, IsSome}
+use Rattle.std.specs.Prelude.{◌≡◌, ◌≢◌, ℕ, List, Option, Some, IsSome}
 use Rattle.std.specs.Option.{option_and_then}
 use Rattle.mm_blocks.specs.Block.{read_of}
 use Rattle.mm_blocks.specs.Layout.{chunk_of, place_in, block_in}

@@ -1,6 +1,6 @@
 -- CRC-32C (RFC 3720, 12.1): the remainder of a text's bits by a generator polynomial over two elements. A text's octets are sent in
 -- their order and each octet's lowest bit first, so numbers here are polynomials read from their lowest bit, the highest power, on.
-use Rattle.std.specs.Prelude.{◌≡◌, ◌≢◌, ℕ, zero, suc, ◌+◌, ◌*◌, ◌/◌, ◌%◌, ◌^◌, ◌<◌, ◌≤◌, List, [], ◌∷◌, length, bit_xor, All}
+use Rattle.std.specs.Prelude.{ℕ, zero, suc, ◌+◌, ◌*◌, ◌/◌, ◌%◌, List, [], ◌∷◌, length, bit_xor}
 
 -- the generator polynomial, 0x11EDC6F41 from its highest power on, read from its lowest on and without its highest power
 abbrev pub generator : ℕ

@@ -1,5 +1,5 @@
 -- How an array of blocks lies in memory. No public clause cites this module but through the words of `Blocks`.
-use Rattle.std.specs.Prelude.{◌≡◌, ℕ, ◌-◌, ◌*◌, ◌/◌, ◌%◌, ◌<◌, min, List, length, slice_get, vec_len, Option, Some, Vec}
+use Rattle.std.specs.Prelude.{◌≡◌, ℕ, ◌-◌, ◌*◌, ◌/◌, ◌%◌, min, List, length, slice_get, Option, Some, Vec}
 use Rattle.std.specs.Option.{option_and_then}
 use Rattle.std.specs.Global.{Global}
 use Rattle.mm_blocks.specs.declared.block.Block.{Block}

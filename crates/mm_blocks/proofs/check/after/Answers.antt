@@ -1,4 +1,4 @@
-use Rattle.std.proofs.Common.{◌≡◌, ◌+◌, ◌<◌, List, ℕ, ◌∷◌, ◌++◌, length, get_or, drop, sym, ap, ap₂, ◌∙◌, arith, add-one}
+use Rattle.std.proofs.Common.{◌≡◌, ◌+◌, ◌<◌, List, ℕ, ◌∷◌, ◌++◌, length, get_or, drop, sym, ap, ap₂, ◌∙◌, add-one}
 use Rattle.std.proofs.Common.{take-append-drop, drop-cons, drop_of_length-le}
 use Rattle.mm_blocks.specs.Check.{remainder_from}
 use Rattle.mm_blocks.proofs.CheckLemmas.{remainder_from-nil}

@@ -9,14 +9,14 @@ returns-then-place-self c =
     record {
       has = (
         λ yes.
-          let less : c.chunk_of.result < c.len.result = ltb-true c.chunk_of.result c.len.result yes in
-          let within : chunk_of it.layout c.args.place < length it.chunks.items = omega (arith, it.chunks.ok.0) in
-          has_block it.layout it.room it.chunks.items c.args.place it.chunked c.if-place-self.true within,
+            let less : c.chunk_of.result < c.len.result = ltb-true c.chunk_of.result c.len.result yes in
+            let within : chunk_of it.layout c.args.place < length it.chunks.items = omega (arith, it.chunks.ok.0) in
+            has_block it.layout it.room it.chunks.items c.args.place it.chunked c.if-place-self.true within,
         λ some.
-          let within : chunk_of it.layout c.args.place < length it.chunks.items =
-          (has_place it.layout it.room it.chunks.items c.args.place it.chunked some).1 in
-          lt-ltb c.chunk_of.result c.len.result (omega (arith, it.chunks.ok.0)),
-      )
+            let within : chunk_of it.layout c.args.place < length it.chunks.items =
+            (has_place it.layout it.room it.chunks.items c.args.place it.chunked some).1 in
+            lt-ltb c.chunk_of.result c.len.result (omega (arith, it.chunks.ok.0)),
+      );
     }
 
 pub returns-else-place-self : goal.returns-else-place-self
@@ -26,5 +26,5 @@ returns-else-place-self c =
       has = (
         λ yes. let less : c.args.place < it.room = ltb-true c.args.place it.room yes in absurd (omega arith),
         λ some. absurd (omega (arith, (has_place it.layout it.room it.chunks.items c.args.place it.chunked some).0)),
-      )
+      );
     }
