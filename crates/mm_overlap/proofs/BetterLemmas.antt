@@ -1,5 +1,5 @@
 -- Passes that one transmitter serves.
-use Rattle.std.proofs.Common.{◌≡◌, ℕ, zero, suc, ◌+◌, ◌*◌, ◌/◌, ◌<◌, ◌≤◌, Bool, true, false, cond, List, [], ◌∷◌, ◌++◌}
+use Rattle.std.proofs.Common.{◌≡◌, ℕ, zero, suc, ◌+◌, ◌*◌, ◌/◌, ◌^◌, ◌<◌, ◌≤◌, Bool, true, false, cond, List, [], ◌∷◌, ◌++◌}
 use Rattle.std.proofs.Common.{length, min, get_or, take, drop, refl, sym, ap, ◌∙◌, subst, inl, inr, arith, append_assoc}
 use Rattle.std.specs.Prelude.{All, AllPairs, Contains, IsTrue, Option, Some, None, map, nat_le, nat_lt, ◌&&◌}
 use Rattle.std.specs.Prelude.{filter, slice_index}
@@ -16,7 +16,6 @@ use Rattle.std.proofs.lemmas.List.FromFn.{length-map-range_with_len, get_or-map-
 use Rattle.mm_base.proofs.Pairs.{All-front, All-back, AllPairs-map}
 use Rattle.mm_links.specs.declared.better.Offer.{Offer}
 use Rattle.mm_links.specs.declared.better.Part.{Part}
-use Rattle.mm_links.specs.declared.limits.TheConstants.{LAST}
 use Rattle.mm_links.specs.Used as used
 use Rattle.mm_mission.specs.declared.limits.TheConstants.{MAX_RATE}
 use Rattle.mm_mission.specs.declared.parts.Pass.{Pass}
@@ -43,7 +42,7 @@ next_rate time r (Some next) is rates least =
       some = is.some;
       within = is.within;
     }
-next_rate time r None none rates least s some common =
+next_rate time r None none rates least = λ s some common.
     let divides : Rate → Type 0 = λ q. q.micros ∣ s in
     none s some (least.least s (All-front divides rates (r ∷ []) common))
     (All-head divides r [] (All-back divides rates (r ∷ []) common))
@@ -106,11 +105,14 @@ below_more : (xs : List ℕ) (n k : ℕ) → n ≤ k → below xs n ≤ below xs
 below_more [] n k more = omega arith
 below_more (x ∷ xs) n k more =
     let rest = below_more xs n k more in
-    elim (cases_Bool (nat_lt x n), cases_Bool (nat_lt x k)) [
-      | inl first, inl second ↦ rw (first, second) (omega (arith, rest))
-      | inl first, inr second ↦ absurd (grind (arith, nat_tests, first, second, more))
-      | inr first, inl second ↦ rw (first, second) (omega (arith, rest))
-      | inr first, inr second ↦ rw (first, second) rest
+    elim (cases_Bool (nat_lt x n)) [
+      | inl first ↦
+          let second : nat_lt x k ≡ true = grind (arith, nat_tests, first, more) in
+          rw (first, second) (omega (arith, rest))
+      | inr first ↦ elim (cases_Bool (nat_lt x k)) [
+          | inl second ↦ rw (first, second) (omega (arith, rest))
+          | inr second ↦ rw (first, second) rest
+        ]
     ]
 
 -- and still more if one of the numbers itself is less than it
@@ -124,11 +126,14 @@ below_itself (x ∷ xs) n k zero d within is less =
     rw (first, second) (omega (arith, rest))
 below_itself (x ∷ xs) n k (suc i) d within is less =
     let rest = below_itself xs n k i d (omega arith) is less in
-    elim (cases_Bool (nat_lt x n), cases_Bool (nat_lt x k)) [
-      | inl first, inl second ↦ rw (first, second) (omega (arith, rest))
-      | inl first, inr second ↦ absurd (grind (arith, nat_tests, first, second, less))
-      | inr first, inl second ↦ rw (first, second) (omega (arith, rest))
-      | inr first, inr second ↦ rw (first, second) rest
+    elim (cases_Bool (nat_lt x n)) [
+      | inl first ↦
+          let second : nat_lt x k ≡ true = grind (arith, nat_tests, first, less) in
+          rw (first, second) (omega (arith, rest))
+      | inr first ↦ elim (cases_Bool (nat_lt x k)) [
+          | inl second ↦ rw (first, second) (omega (arith, rest))
+          | inr second ↦ rw (first, second) rest
+        ]
     ]
 
 -- a number is at most another one of the list if no more numbers are less than it
@@ -142,7 +147,7 @@ by_rank xs n i d within less = elim (cases_lt (get_or xs i d) n) [
 
 module _ (p : Pass) (channels : List ℕ) (time : ℕ) where
   -- the rates of the link and of the first channels
-  rates_to : ℕ → List Rate
+  abbrev pub rates_to : ℕ → List Rate
   rates_to i = p.rate ∷ map (channel_rate p) (take i channels)
 
   rates_with : (i : ℕ) → rates_of channels p ≡ rates_to i ++ map (channel_rate p) (drop i channels)
@@ -225,7 +230,7 @@ part_fits lasts b e d fits some most =
 
 module _ (m : MissionRows) (passes : List Pass) (time : ℕ) (octets : List ℕ) (some : 1 ≤ time)
     (sent : AreSent (channels_of m) time passes octets) where
-  offers : List Offer
+  abbrev pub offers : List Offer
   offers = map (offer_of passes octets) (range_with_len 0 (length passes))
 
   as_many : length offers ≡ length passes
@@ -239,7 +244,7 @@ module _ (m : MissionRows) (passes : List Pass) (time : ℕ) (octets : List ℕ)
   is_there : (i moment : ℕ) → i < length passes → used.IsThere (used.offer offers i) moment
       → IsThere (pass passes i) moment
   is_there i moment within there =
-      let here : used.IsThere (offer_of passes octets i) moment = rw the_offer i within at there in
+      let here : used.IsThere (offer_of passes octets i) moment = rw (the_offer i within) at there in
       record { begun = here.begun; lasts = here.lasts }
 
   is_offered : (i moment : ℕ) → i < length passes → IsThere (pass passes i) moment
@@ -285,7 +290,7 @@ module _ (m : MissionRows) (passes : List Pass) (time : ℕ) (octets : List ℕ)
 
   -- the parts that are served are those that are meant
   pub are_parts : (parts : List Part) → used.AreUsed offers parts
-      → ((i : ℕ) → i < length passes → (pass passes i).span.end ≤ LAST)
+      → ((i : ℕ) → i < length passes → (pass passes i).span.end < 2 ^ 64)
       → AreParts m passes (map (λ (p : Part). p.pass) parts) (map (part_of passes) parts)
   are_parts parts is ends = record {
     as_many = length-map parts (λ (p : Part). p.pass) ∙ sym (length-map parts (part_of passes));
@@ -304,5 +309,5 @@ module _ (m : MissionRows) (passes : List Pass) (time : ℕ) (octets : List ℕ)
         let (j, known, found) = inside in
         let own : pass (map (part_of passes) parts) j ≡ part_of passes p =
         get_or-map (part_of passes) parts j p no_pass known ∙ ap (part_of passes) found in
-        (j, (omega (arith, known, length-map parts (part_of passes)), rw own (record { begun = begun; lasts = lasts })));
+        (j, omega (arith, known, length-map parts (part_of passes)), rw own (record { begun = begun; lasts = lasts }));
   }

@@ -77,7 +77,10 @@ pub(crate) fn common_time(channels: &[u8], passes: &[Pass]) -> Result<u64, Fault
 {
     let mut time = 1;
     for (row, pass) in passes.iter().enumerate() {
-        time = and_pass(channels, time, pass).ok_or(Fault::BadPass { row })?;
+        time = match and_pass(channels, time, pass) {
+            Some(next) => next,
+            None => return Err(Fault::BadPass { row }),
+        };
     }
     Ok(time)
 }
