@@ -1,5 +1,5 @@
 -- Passes that one transmitter serves.
-use Rattle.std.proofs.Common.{◌≡◌, ℕ, zero, suc, ◌+◌, ◌*◌, ◌/◌, ◌^◌, ◌<◌, ◌≤◌, Bool, true, false, cond, List, [], ◌∷◌, ◌++◌}
+use Rattle.std.proofs.Common.{◌≡◌, ℕ, zero, suc, ◌+◌, ◌-◌, ◌*◌, ◌/◌, ◌^◌, ◌<◌, ◌≤◌, Bool, true, false, cond, List, [], ◌∷◌, ◌++◌}
 use Rattle.std.proofs.Common.{length, min, get_or, take, drop, refl, sym, ap, ◌∙◌, subst, inl, inr, arith, append_assoc}
 use Rattle.std.specs.Prelude.{All, AllPairs, Contains, IsTrue, Option, Some, None, map, nat_le, nat_lt, ◌&&◌}
 use Rattle.std.specs.Prelude.{filter, slice_index}
@@ -8,11 +8,11 @@ use Rattle.std.specs.List.{fold, flat_map, list_all, range_with_len}
 use Rattle.std.proofs.Math.Nat.{dvd_trans, div-mul_cancel, pos_of_dvd_of_pos, mul-pos}
 use Rattle.std.proofs.lemmas.Bool.{cases_Bool, cases_lt, and_parts}
 use Rattle.std.proofs.lemmas.Bool.Decides.{nat_tests}
-use Rattle.std.proofs.lemmas.List.{get_or-map, length-map, map-append, map_more, take_all, take_more, take-append-drop}
-use Rattle.std.proofs.lemmas.List.{flat_map_more}
+use Rattle.std.proofs.lemmas.List.{get_or-map, get_or_default, length-map, map-append, map_more, take_all, take_more}
+use Rattle.std.proofs.lemmas.List.{flat_map_more, take-append-drop}
 use Rattle.std.proofs.lemmas.List.Sums.{fold_push}
 use Rattle.std.proofs.lemmas.List.Elements.{All-head, All-push}
-use Rattle.std.proofs.lemmas.List.FromFn.{length-map-range_with_len, get_or-map-range_with_len}
+use Rattle.std.proofs.lemmas.List.FromFn.{length-map-range_with_len, get_or-map-range_with_len, map-range_with_len_more}
 use Rattle.mm_base.proofs.Pairs.{All-front, All-back, AllPairs-map}
 use Rattle.mm_links.specs.declared.better.Offer.{Offer}
 use Rattle.mm_links.specs.declared.better.Part.{Part}
@@ -226,6 +226,34 @@ part_fits lasts b e d fits some most =
     let last : nat_le e lasts ≡ true = grind (arith, nat_tests, most, end) in
     rw (first, last, link, own) refl
 
+-- ---- offers
+
+-- one more pass is offered
+pub offers_more : (passes : List Pass) (octets : List ℕ) (i e end worth : ℕ) (d : Pass) (offers new : List Offer)
+    → new ≡ offers ++ record { begin = (get_or passes i d).span.begin; end = end; worth = worth } ∷ []
+    → offers ≡ map (offer_of passes octets) (range_with_len 0 i) → i < length passes → i < length octets
+    → end ≡ (get_or passes i d).span.end → worth ≡ below octets (get_or octets i e)
+    → new ≡ map (offer_of passes octets) (range_with_len 0 (i + 1))
+offers_more passes octets i e end worth d offers new is before within known ends ranks =
+    let own : get_or passes i d ≡ pass passes i = get_or_default passes i d no_pass within in
+    let number : get_or octets i e ≡ slice_index octets i = get_or_default octets i e 0 known in
+    let last : ◌≡◌ {A = Offer} (record { begin = (get_or passes i d).span.begin; end = end; worth = worth })
+    (offer_of passes octets i) = rw (ranks, ends, number, own) refl in
+    is ∙ ap (λ o. offers ++ o ∷ []) last ∙ ap (λ os. os ++ offer_of passes octets i ∷ []) before
+    ∙ sym (map-range_with_len_more (offer_of passes octets) 0 i i (omega arith))
+
+-- one more pass ends in time
+pub ends_more : (passes : List Pass) (i : ℕ) (d : Pass) → i < length passes
+    → ((k : ℕ) → k < i → (pass passes k).span.end < 2 ^ 64) → (get_or passes i d).span.end < 2 ^ 64
+    → (k : ℕ) → k < i + 1 → (pass passes k).span.end < 2 ^ 64
+ends_more passes i d within before last k below = elim (cases_lt k i) [
+  | inl early ↦ before k early
+  | inr past ↦
+      let here : i ≡ k = omega arith in
+      let own : (pass passes i).span.end < 2 ^ 64 = rw (get_or_default passes i d no_pass within) at last in
+      rw here at own
+]
+
 -- ---- the parts
 
 module _ (m : MissionRows) (passes : List Pass) (time : ℕ) (octets : List ℕ) (some : 1 ≤ time)
@@ -284,6 +312,17 @@ module _ (m : MissionRows) (passes : List Pass) (time : ℕ) (octets : List ℕ)
   -- a part is of a pass
   pub part_known : (p : Part) → used.IsPart offers p → p.pass < length passes
   part_known p is = (is_best p.begin p.pass (is.best p.begin (omega arith) is.some)).known
+
+  -- and in range, as that is
+  pub part_in_range : All (λ (q : Pass). IsTrue (is_pass m.lasts q)) passes → (p : Part) → used.IsPart offers p
+      → IsTrue (is_pass m.lasts (part_of passes p))
+  part_in_range fits p is =
+      let some_time = is.some in
+      let known = part_known p is in
+      let last = is.best (p.end - 1) (omega arith) (omega arith) in
+      let there = is_there p.pass (p.end - 1) known last.there in
+      part_fits m.lasts p.begin p.end (pass passes p.pass) (fits p.pass no_pass known) is.some
+      (omega (arith, there.lasts, some_time))
 
   no_part : Part
   no_part = record { pass = 0; begin = 0; end = 0 }

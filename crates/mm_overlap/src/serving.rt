@@ -1,12 +1,12 @@
 //! One transmitter for passes that overlap: at each moment it serves the pass that can send most.
-ghost use Rattle.std.specs.Prelude.{◌≡◌, ℕ, ◌<◌, ◌≤◌, All, length, map, Ok, IfOk, OnOk};
+ghost use Rattle.std.specs.Prelude.{◌≡◌, ℕ, ◌^◌, ◌<◌, ◌≤◌, All, length, map, Ok, IfOk, OnOk};
 ghost use Rattle.std.specs.List.{range_with_len};
 ghost use Rattle.mm_base.specs.declared.limits.TheConstants.{CHANNELS};
 ghost use Rattle.mm_base.specs.Reading.{IfRefused};
 ghost use Rattle.mm_links.specs.declared.better.Part.{Part};
 ghost use Rattle.mm_mission.specs.declared.fault.Fault.TheVariants.{NoMemory};
 ghost use Rattle.mm_mission.specs.Mission.{each_pass_fits};
-ghost use Rattle.mm_overlap.specs.Given.{IsTransmitter};
+ghost use Rattle.mm_overlap.specs.Given.{pass, IsTransmitter};
 ghost use Rattle.mm_overlap.specs.Better.{has_store, channels_of, below, offer_of, part_of, AreParts, IsRefused};
 
 use crate::rates::{all_octets, common_time};
@@ -51,17 +51,26 @@ fn below(numbers: &[u128], number: u128) -> u64
     numbers.iter().filter(|other| **other < number).count() as u64
 }
 
+// When a pass ends.
+fn end_of(pass: &Pass) -> u64
+    ensures end { result ≡ pass.now.span.end }
+    ensures fits { pass.now.span.end < 2 ^ 64 }
+{
+    pass.span.end
+}
+
 // Passes as they are offered to the transmitter, by what each can send in a common time.
 fn offers_of(alloc: Global, passes: &[Pass], octets: &[u128]) -> Result<Vec<Offer>, AllocError>
     requires { length octets.now ≡ length passes.now }
-    ensures { IfOk result (λ offers.
+    ensures ends { OnOk result ((i : ℕ) → i < length passes.now → (pass passes.now i).span.end < 2 ^ 64) }
+    ensures offers { IfOk result (λ offers.
         offers.items ≡ map (offer_of passes.now octets.now) (range_with_len 0 (length passes.now))) }
 {
     let mut offers = Vec::new(alloc);
     for (i, pass) in passes.iter().enumerate() {
         offers.push(Offer {
             begin: pass.span.begin,
-            end: pass.span.end,
+            end: end_of(pass),
             worth: below(octets, octets[i]),
         })?;
     }
