@@ -110,9 +110,9 @@ below_more (x ∷ xs) n k more =
           let second : nat_lt x k ≡ true = grind (arith, nat_tests, first, more) in
           rw (first, second) (omega (arith, rest))
       | inr first ↦ elim (cases_Bool (nat_lt x k)) [
-          | inl second ↦ rw (first, second) (omega (arith, rest))
-          | inr second ↦ rw (first, second) rest
-        ]
+        | inl second ↦ rw (first, second) (omega (arith, rest))
+        | inr second ↦ rw (first, second) rest
+      ]
     ]
 
 -- and still more if one of the numbers itself is less than it
@@ -131,9 +131,9 @@ below_itself (x ∷ xs) n k (suc i) d within is less =
           let second : nat_lt x k ≡ true = grind (arith, nat_tests, first, less) in
           rw (first, second) (omega (arith, rest))
       | inr first ↦ elim (cases_Bool (nat_lt x k)) [
-          | inl second ↦ rw (first, second) (omega (arith, rest))
-          | inr second ↦ rw (first, second) rest
-        ]
+        | inl second ↦ rw (first, second) (omega (arith, rest))
+        | inr second ↦ rw (first, second) rest
+      ]
     ]
 
 -- a number is at most another one of the list if no more numbers are less than it

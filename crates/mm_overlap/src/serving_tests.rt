@@ -37,7 +37,13 @@ fn mission(rt: &impl Runtime) -> Mission {
         channel: 0,
     }];
     let stores = Vec::from_slice(rt.alloc(), &stores).expect(rt, "memory");
-    Mission::new(100_000_000, stores, Vec::new(rt.alloc()), Vec::new(rt.alloc())).expect(rt, "a mission")
+    Mission::new(
+        100_000_000,
+        stores,
+        Vec::new(rt.alloc()),
+        Vec::new(rt.alloc()),
+    )
+    .expect(rt, "a mission")
 }
 
 #[test]
@@ -48,7 +54,12 @@ fn the_pass_that_can_send_most_of_the_stores_channels_is_served(rt: HostRuntime)
     let second = 1_000_000;
     let passes = [
         pass(10, 40, rate(200, second), [None; 2]),
-        pass(20, 50, rate(400, second), [Some(rate(100, second)), Some(rate(400, second))]),
+        pass(
+            20,
+            50,
+            rate(400, second),
+            [Some(rate(100, second)), Some(rate(400, second))],
+        ),
         pass(25, 30, rate(601, 3 * second), [None; 2]),
     ];
     let served = better(rt.alloc(), &mission(&rt), &passes).expect(&rt, "parts");
@@ -56,7 +67,13 @@ fn the_pass_that_can_send_most_of_the_stores_channels_is_served(rt: HostRuntime)
         pass(10, 25, passes[0].rate, [None; 2]),
         passes[2],
         pass(30, 40, passes[0].rate, [None; 2]),
-        Pass { span: Span { begin: 40 * second, end: 50 * second }, ..passes[1] },
+        Pass {
+            span: Span {
+                begin: 40 * second,
+                end: 50 * second,
+            },
+            ..passes[1]
+        },
     ];
     assert!(rt; served.mission.passes() == wanted);
     assert!(rt; served.numbers.as_slice() == [0, 2, 0, 1]);
@@ -67,7 +84,11 @@ fn rates_without_a_common_time_are_refused(rt: HostRuntime) {
     // 3^31 microseconds are 617,673,396,283,947; with 2 microseconds there are 1,235,346,792,567,894 in common, which is
     // above 2^50, 1,125,899,906,842,624
     let odd = pass(20, 40, rate(1, 617_673_396_283_947), [None; 2]);
-    let passes = [pass(10, 30, rate(1, 1), [None; 2]), odd, pass(0, 10, rate(1, 2), [None; 2])];
+    let passes = [
+        pass(10, 30, rate(1, 1), [None; 2]),
+        odd,
+        pass(0, 10, rate(1, 2), [None; 2]),
+    ];
     let whole = mission(&rt);
     let refused = better(rt.alloc(), &whole, &passes).err();
     assert!(rt; refused == Some(Fault::BadPass { row: 2 }));

@@ -24,5 +24,5 @@ returns-in-None-clause-none c = (
   c.loop-row.row,
   refl,
   pass_none c.args.channels.now c.args.passes.now c.loop-row.row c.loop-row.time _ (omega arith) c.loop-row.invariant
-  c.in-None.ensures.next,
+      c.in-None.ensures.next,
 )

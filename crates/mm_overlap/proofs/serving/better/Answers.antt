@@ -56,8 +56,13 @@ returns-clause-parts c =
     let sent = rw (c.deref-2.ensures.value, c.in_ok-channels.ensures) at c.in_ok-octets.ensures in
     let is = rw (c.deref-4.ensures.value, c.in_ok-offers.ensures.offers, c.deref-3.ensures.value)
     at c.in_ok-parts.ensures.used in
-    rw (c.in_ok-mission.ensures, c.in_ok-own.ensures, c.deref-5.ensures.value, c.in_ok-numbers.ensures,
-    c.deref-6.ensures.value) (are_parts m passes c.in_ok-time.time octets c.in_ok-time.ensures.time.some sent parts is
+    rw (
+      c.in_ok-mission.ensures,
+      c.in_ok-own.ensures,
+      c.deref-5.ensures.value,
+      c.in_ok-numbers.ensures,
+      c.deref-6.ensures.value,
+    ) (are_parts m passes c.in_ok-time.time octets c.in_ok-time.ensures.time.some sent parts is
     c.in_ok-offers.ensures.ends)
 
 pub returns-then-len-gt-MAX_PASSES-clause-refused : goal.returns-then-len-gt-MAX_PASSES-clause-refused
@@ -72,5 +77,14 @@ returns-then-len-gt-MAX_PASSES-clause-refused c =
     let are = are_parts m passes c.in_ok-time.time octets c.in_ok-time.ensures.time.some sent parts is
     c.in_ok-offers.ensures.ends in
     let as_long : vec_len c.in_ok-parts.parts ≡ length parts = search rules in
-    λ _. inr (inr (refl, (map (λ (p : Part). p.pass) parts, (map (part_of passes) parts, are,
-    omega (arith, as_long, c.len.ensures, c.if-len-gt-MAX_PASSES.true, length-map parts (part_of passes))))))
+    λ _. inr (inr (
+      refl,
+      (
+        map (λ (p : Part). p.pass) parts,
+        (
+          map (part_of passes) parts,
+          are,
+          omega (arith, as_long, c.len.ensures, c.if-len-gt-MAX_PASSES.true, length-map parts (part_of passes)),
+        ),
+      ),
+    ))
