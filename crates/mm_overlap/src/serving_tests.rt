@@ -75,8 +75,8 @@ fn the_pass_that_can_send_most_of_the_stores_channels_is_served(rt: HostRuntime)
             ..passes[1]
         },
     ];
-    assert!(rt; served.mission.passes() == wanted);
-    assert!(rt; served.numbers.as_slice() == [0, 2, 0, 1]);
+    assert!(rt; served.mission.passes() == wanted.as_slice());
+    assert!(rt; served.numbers.as_slice() == [0, 2, 0, 1].as_slice());
 }
 
 #[test]
