@@ -1,6 +1,7 @@
 -- Passes that overlap, served by one transmitter. Passes and parts of passes count from 0, rates are fractions.
 use Rattle.std.specs.Prelude.{◌≡◌, ℕ, ◌+◌, ◌*◌, ◌<◌, ◌≤◌, ◌⊎◌, Bool, nat_le, nat_lt, if◌then◌else◌, List, [], ◌∷◌}
-use Rattle.std.specs.Prelude.{◌++◌, length, map, filter, slice_index, take, All, AllPairs, IsTrue, Option, Some, None, Err}
+use Rattle.std.specs.Prelude.{◌++◌, length, map, filter, slice_index, take, All, AllPairs, IsTrue, Option, Some, None}
+use Rattle.std.specs.Prelude.{Err}
 use Rattle.std.specs.Int.{◌∣◌}
 use Rattle.std.specs.List.{fold, flat_map, list_any, range_with_len}
 use Rattle.std.specs.Option.{unwrap_or}

@@ -109,13 +109,13 @@ fn numbers_of(alloc: Global, parts: &[Part]) -> Result<Vec<usize>, AllocError>
     parts.iter().map(|part| part.pass).collect(alloc)
 }
 
-/// The mission of one transmitter, for passes of a mission that may overlap, at most 256: the given mission with parts of
-/// these passes in place of its own. At each moment the transmitter serves the pass that can send most of what stores
-/// have channels for: each channel at its rate, and all together at most at the link's. Of equals the one in use stays;
-/// else it is the one that began first, and of these the first in the list.
+/// The mission of one transmitter, for passes of a mission that may overlap, at most 256: the given mission with parts
+/// of these passes in place of its own. At each moment the transmitter serves the pass that can send most of what
+/// stores have channels for: each channel at its rate, and all together at most at the link's. Of equals the one in use
+/// stays; else it is the one that began first, and of these the first in the list.
 ///
-/// Refused are too many passes, the first that is out of range, and the first whose rates, with those of the passes before
-/// it, flow in whole octets in no common time of at most 2^50 microseconds (`BadPass`); and more than 256 parts
+/// Refused are too many passes, the first that is out of range, and the first whose rates, with those of the passes
+/// before it, flow in whole octets in no common time of at most 2^50 microseconds (`BadPass`); and more than 256 parts
 /// (`TooMany`).
 pub fn better(alloc: Global, mission: &Mission, passes: &[Pass]) -> Result<Served, Fault>
     ensures fit { OnOk result (each_pass_fits mission.now passes.now ≡ Ok tt) }

@@ -49,8 +49,8 @@ fn mission(rt: &impl Runtime) -> Mission {
 #[test]
 fn the_pass_that_can_send_most_of_the_stores_channels_is_served(rt: HostRuntime) {
     // the first pass sends 200 octets a second. The link of the second one is faster, but it can send only 100 of the
-    // store's channel; its other channel has no store. The third one sends a third of an octet more in a second than the
-    // first
+    // store's channel; its other channel has no store. The third one sends a third of an octet more in a second than
+    // the first
     let second = 1_000_000;
     let passes = [
         pass(10, 40, rate(200, second), [None; 2]),
@@ -81,8 +81,8 @@ fn the_pass_that_can_send_most_of_the_stores_channels_is_served(rt: HostRuntime)
 
 #[test]
 fn rates_without_a_common_time_are_refused(rt: HostRuntime) {
-    // 3^31 microseconds are 617,673,396,283,947; with 2 microseconds there are 1,235,346,792,567,894 in common, which is
-    // above 2^50, 1,125,899,906,842,624
+    // 3^31 microseconds are 617,673,396,283,947; with 2 microseconds there are 1,235,346,792,567,894 in common, which
+    // is above 2^50, 1,125,899,906,842,624
     let odd = pass(20, 40, rate(1, 617_673_396_283_947), [None; 2]);
     let passes = [
         pass(10, 30, rate(1, 1), [None; 2]),

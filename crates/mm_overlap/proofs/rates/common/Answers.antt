@@ -2,7 +2,8 @@ use Rattle.std.proofs.Common.{◌≡◌, ◌*◌, ◌/◌, ◌≤◌, rules, ari
 use Rattle.std.proofs.Math.Nat.{pos_of_dvd_of_pos}
 use Rattle.mm_overlap.proofs.Multiples.{least_is, none_least}
 use Rattle.mm_overlap.proofs.rates.common.Goals as goal
-use Rattle.mm_overlap.proofs.rates.common.Goals.{else-multiple-ge1-via-then-multiple-ge1+else-multiple-from, else-multiple-ge1-via-else-multiple-ge1}
+use Rattle.mm_overlap.proofs.rates.common.Goals.{else-multiple-ge1-via-then-multiple-ge1+else-multiple-from}
+use Rattle.mm_overlap.proofs.rates.common.Goals.{else-multiple-ge1-via-else-multiple-ge1}
 
 pub nonzero_div-first : goal.nonzero_div-first
 nonzero_div-first c = pos_of_dvd_of_pos c.divisor.ensures.0 c.requires
