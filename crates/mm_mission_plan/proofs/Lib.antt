@@ -3,4 +3,3 @@ pub mod Searched
 pub mod Named
 pub mod ProblemTexts
 pub mod Shown
-pub mod Lost

@@ -66,10 +66,11 @@ IsFaultOf said tables fault =
     (rows_in said tables ≡ Err fault)
     ⊎ ((rows : Rows) × (rows_in said tables ≡ Ok (said_by rows)) × IsUnitFault rows fault)
 
--- the same of a mission's text
+-- the plan of the mission that a text says
 abbrev pub PlansText : List ℕ → TableTexts → PlannedMission → Type 0
 PlansText text tables p = (said : MissionText) × (mission_in text ≡ Ok said) × PlansMission said tables p
 
+-- the first fault of the text, or else of its mission
 abbrev pub IsFaultOfText : List ℕ → TableTexts → Fault → Type 0
 IsFaultOfText text tables fault =
     (told_as text_fault (mission_in text) ≡ Err fault)

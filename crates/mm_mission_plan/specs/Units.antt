@@ -81,21 +81,22 @@ IsLeastFault rows fault = (unit : ℕ) × IsLeast rows unit × IsRefusal rows un
 
 -- ---- the unit of a mission
 
+-- no unit is said, or the mission is refused in it
+abbrev pub HasNoUnit : Rows → Type 0
+HasNoUnit rows = (rows.whole.now.unit ≡ 0) ⊎ ((fault : Fault) × IsRefusal rows rows.whole.now.unit fault)
+
 -- the unit that is said, if the mission can be planned in it, or else the least one
 abbrev pub IsUnit : Rows → ℕ → Type 0
-IsUnit rows unit =
-    ((1 ≤ unit) × (rows.whole.now.unit ≡ unit))
-    ⊎ (((rows.whole.now.unit ≡ 0) ⊎ ((fault : Fault) × IsRefusal rows rows.whole.now.unit fault)) × IsLeast rows unit)
+IsUnit rows unit = ((1 ≤ unit) × (rows.whole.now.unit ≡ unit)) ⊎ (HasNoUnit rows × IsLeast rows unit)
 
 -- the mission in its unit
 pub record IsInUnit (rows : Rows) (unit : ℕ) (t : Tried) : Type 0 where
   pub is_unit : IsUnit rows unit
   pub plannable : IsPlannable rows unit t
 
--- no unit is said, or the mission is refused in it, and this is its fault in the least one
+-- the fault of a mission that has no unit, in the least one
 abbrev pub IsUnitFault : Rows → Fault → Type 0
-IsUnitFault rows fault =
-    ((rows.whole.now.unit ≡ 0) ⊎ ((said : Fault) × IsRefusal rows rows.whole.now.unit said)) × IsLeastFault rows fault
+IsUnitFault rows fault = HasNoUnit rows × IsLeastFault rows fault
 
 -- ---- on the way to it
 

@@ -15,6 +15,7 @@ use crate::unit::{InUnit, in_unit};
 use mm_base::NoMemory;
 use mm_mission::{PacketStep, in_packets, timeline};
 use mm_mission_exact::Rows;
+use mm_mission_sheet::laws::{plans_fit, timelines_fit};
 use mm_mission_sheet::{PassName, sheet_csv, timeline_csv};
 use mm_mission_text::{MissionText, mission};
 use mm_plan::loss_of;
@@ -52,17 +53,23 @@ fn planned(
 {
     let tried = &found.tried;
     let mission = &tried.flown.mission;
-    let texts = problem_texts(alloc, mission, &tried.edges, &tried.problem)?;
+    let edges = tried.edges.as_slice();
+    // Its numbers are within their ranges, as `passes` ensures.
+    let _passes = mission.passes();
+    let texts = problem_texts(alloc, mission, edges, &tried.problem)?;
     let printed = print_plan(alloc, &tried.problem)?;
-    let amounts = amounts_of(alloc, &tried.problem, printed.sheet.plan())?;
-    let steps = in_packets(alloc, mission, &tried.edges, &amounts)?;
-    let dumps = timeline(alloc, mission, &tried.edges, &steps)?;
+    let plan = printed.sheet.plan();
+    let amounts = amounts_of(alloc, &tried.problem, plan)?;
+    let steps = in_packets(alloc, mission, edges, &amounts)?;
+    let dumps = timeline(alloc, mission, edges, &steps)?;
+    timelines_fit();
+    plans_fit();
     let begin = tried.flown.begin;
     let timeline = timeline_csv(alloc, begin, mission, names, &dumps)?;
-    let sheet = sheet_csv(alloc, begin, mission, names, &tried.edges, &steps)?;
+    let sheet = sheet_csv(alloc, begin, mission, names, edges, &steps)?;
     Ok(PlannedMission {
         unit: found.unit,
-        loss: loss_of(&tried.problem, printed.sheet.plan()),
+        loss: loss_of(&tried.problem, plan),
         steps,
         setup: texts.setup,
         forecast: texts.forecast,
@@ -87,8 +94,8 @@ fn plan_rows(alloc: Global, rows: &Rows<'_>) -> Result<PlannedMission, Fault>
 /// A plan of a mission that loses least, from the mission as its text says it and the texts of the CSV files that it
 /// names to what is printed. Otherwise the first fault, in the order of the faults.
 ///
-/// The unit is the mission's own, if it can be planned in it, or else the least one in which no size, window, limit or
-/// arrival is above 1,000,000.
+/// The unit is the mission's own, if it can be planned in it. Otherwise it is 1, or no size, window, limit or arrival is
+/// above 1,000,000 while one is in the next lower unit.
 pub fn plan_mission(
     alloc: Global,
     said: MissionText,

@@ -1,9 +1,10 @@
 //! The unit in which a mission is planned.
-ghost use Rattle.std.specs.Prelude.{◌≡◌, ◌+◌, ◌<◌, length, IfOk};
+ghost use Rattle.std.specs.Prelude.{◌≡◌, ◌≢◌, ◌+◌, ◌-◌, ◌*◌, ◌<◌, true, IfOk};
 ghost use Rattle.mm_base.specs.Reading.{Gives, IfRefused};
 ghost use Rattle.mm_mission_plan.specs.Faults.{is_small};
-ghost use Rattle.mm_mission_plan.specs.Units.{numbers_of, flown_of, is_too_small, IsOutcome, IsFound, IsLeast, IsPlannable};
-ghost use Rattle.mm_mission_plan.specs.Units.{IsInUnit, IsUnitFault, IsLeastFault};
+ghost use Rattle.mm_mission_plan.specs.Units.{numbers_of, flown_of, is_too_small, IsOutcome, IsTried, IsFound};
+ghost use Rattle.mm_mission_plan.specs.Units.{HasNoUnit, IsInUnit, IsUnitFault};
+ghost use Rattle.mm_mission.specs.declared.limits.TheConstants.{MAX_UNIT};
 ghost use Rattle.mm_mission_plan.specs.declared.fault.Fault.TheVariants.{NoMemory};
 
 use crate::fault::Fault;
@@ -101,6 +102,22 @@ impl Found {
     }
 }
 
+// Doubles a unit that is too small.
+fn double(alloc: Global, rows: &Rows<'_>, found: Found) -> Found
+    requires tried { IsTried rows.now found }
+    requires small { is_too_small found.outcome ≡ true }
+    requires below { found.high < MAX_UNIT }
+    ensures tried { IsTried rows.now result }
+    ensures twice { result.high ≡ 2 * found.high }
+{
+    let high = 2 * found.high;
+    Found {
+        low: found.high,
+        high,
+        outcome: outcome_of(alloc, rows, high),
+    }
+}
+
 // Doubles the unit while it is too small.
 fn doubled(alloc: Global, rows: &Rows<'_>) -> Found
     ensures { IsFound rows.now result }
@@ -111,17 +128,36 @@ fn doubled(alloc: Global, rows: &Rows<'_>) -> Found
         outcome: outcome_of(alloc, rows, 1),
     };
     'units: while found.is_too_small() && found.high < MAX_UNIT {
-        let high = 2 * found.high;
-        found = Found {
-            low: found.high,
-            high,
-            outcome: outcome_of(alloc, rows, high),
-        };
+        found = double(alloc, rows, found);
     }
     found
 }
 
-// Halves the interval between the units.
+// The half of the interval between the units, of which the lower one is too small or none and the higher one is not.
+fn half(alloc: Global, rows: &Rows<'_>, found: Found) -> Found
+    requires found { IsFound rows.now found }
+    requires apart { found.low + 1 < found.high }
+    ensures found { IsFound rows.now result }
+    ensures less { result.high - result.low < found.high - found.low }
+{
+    let middle = found.low + (found.high - found.low) / 2;
+    let next = Found {
+        low: found.low,
+        high: middle,
+        outcome: outcome_of(alloc, rows, middle),
+    };
+    if next.is_too_small() {
+        Found {
+            low: middle,
+            high: found.high,
+            outcome: found.outcome,
+        }
+    } else {
+        next
+    }
+}
+
+// Halves the interval until there is no unit in it.
 fn halved(alloc: Global, rows: &Rows<'_>, found: Found) -> Found
     requires { IsFound rows.now found }
     ensures found { IsFound rows.now result }
@@ -129,30 +165,33 @@ fn halved(alloc: Global, rows: &Rows<'_>, found: Found) -> Found
 {
     let mut found = found;
     'units: while found.low + 1 < found.high {
-        let middle = found.low + (found.high - found.low) / 2;
-        let next = Found {
-            low: found.low,
-            high: middle,
-            outcome: outcome_of(alloc, rows, middle),
-        };
-        if next.is_too_small() {
-            found.low = middle;
-        } else {
-            found = next;
-        }
+        found = half(alloc, rows, found);
     }
     found
 }
 
 // The mission in the least unit in which no number is too large.
 fn in_least_unit(alloc: Global, rows: &Rows<'_>) -> Result<InUnit, Fault>
-    ensures least { IfOk result (λ found. IsLeast rows.now found.unit × IsPlannable rows.now found.unit found.tried) }
-    ensures refused { IfRefused NoMemory result (IsLeastFault rows.now) }
+    requires { HasNoUnit rows.now }
+    ensures unit { IfOk result (λ found. IsInUnit rows.now found.unit found.tried) }
+    ensures refused { IfRefused NoMemory result (IsUnitFault rows.now) }
 {
     let Found { high, outcome, .. } = halved(alloc, rows, doubled(alloc, rows));
     match outcome {
         Ok(tried) => Ok(InUnit { unit: high, tried }),
         Err(fault) => Err(fault),
+    }
+}
+
+// The mission in the least unit, unless its fault in its own unit is being out of memory.
+fn in_other_unit(alloc: Global, rows: &Rows<'_>, fault: Fault) -> Result<InUnit, Fault>
+    requires { fault ≢ NoMemory → HasNoUnit rows.now }
+    ensures unit { IfOk result (λ found. IsInUnit rows.now found.unit found.tried) }
+    ensures refused { IfRefused NoMemory result (IsUnitFault rows.now) }
+{
+    match fault {
+        Fault::NoMemory => Err(Fault::NoMemory),
+        _ => in_least_unit(alloc, rows),
     }
 }
 
@@ -167,7 +206,6 @@ pub(crate) fn in_unit(alloc: Global, rows: &Rows<'_>) -> Result<InUnit, Fault>
     }
     match outcome_of(alloc, rows, unit) {
         Ok(tried) => Ok(InUnit { unit, tried }),
-        Err(Fault::NoMemory) => Err(Fault::NoMemory),
-        Err(_) => in_least_unit(alloc, rows),
+        Err(fault) => in_other_unit(alloc, rows, fault),
     }
 }

@@ -1,6 +1,12 @@
-use Rattle.std.proofs.Common.{◌≡◌, ◌∙◌, ◌*◌, ap₂}
+use Rattle.std.proofs.Common.{◌≡◌, ◌∙◌, ◌*◌, ap, ap₂}
+use Rattle.mm_mission.specs.Packets.{sent_in}
+use Rattle.mm_mission.specs.Timeline.{amount as units}
+use Rattle.mm_plan.specs.Table.{amount}
+use Rattle.mm_plan.specs.Volumes.{loss}
+use Rattle.mm_mission_plan.specs.Units.{numbers_of}
 use Rattle.mm_mission_plan.proofs.ProblemTexts.{as_many, as_many_steps}
 use Rattle.mm_mission_plan.proofs.Shown.{as_many_names}
+use Rattle.mm_mission_plan.proofs.Stages.{flown_exact}
 use Rattle.mm_mission_plan.proofs.plan.planned.Goals as goal
 
 pub in_packets-requires : goal.in_packets-requires
