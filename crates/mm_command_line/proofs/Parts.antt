@@ -10,7 +10,6 @@ use Rattle.mm_command_line.specs.declared.task.FlightPlan.{FlightPlan}
 use Rattle.mm_command_line.specs.declared.task.FlightPlan.TheVariants.{Given, Made}
 use Rattle.mm_command_line.specs.declared.task.KeptSteps.{KeptSteps}
 use Rattle.mm_command_line.specs.declared.task.MissionPart.{MissionPart}
-use Rattle.mm_command_line.specs.declared.task.MissionPart.TheVariants as part
 use Rattle.mm_command_line.specs.declared.task.PlanFiles.{PlanFiles}
 use Rattle.mm_command_line.specs.declared.task.Task.{Task}
 use Rattle.mm_command_line.specs.declared.task.Task.TheVariants.{Plan, Keep, Chart, Table, Rest, Sensitivity, Fly, Mission}
@@ -36,17 +35,6 @@ other_given [] flag is one other same = omega (arith, one)
 other_given (first ∷ []) flag true one other same = other (ap (λ words. slice_index_or words 0 []) same)
 other_given (first ∷ []) flag false one other same = let n = ap length same in omega (arith, n)
 other_given (first ∷ next ∷ rest) flag is one other same = omega (arith, one)
-
--- two flags or more ask for no part of a mission
-pub many_given : (flags : List (Bor Text)) (p : MissionPart) → (length flags ≡ 0 → ⊥) → (length flags ≡ 1 → ⊥)
-    → map (λ f. f.now) flags ≡ part_flags p → ⊥
-many_given [] p none one same = none refl
-many_given (first ∷ []) p none one same = one refl
-many_given (first ∷ next ∷ rest) part.Sheet none one same = let n = ap length same in omega (arith, n)
-many_given (first ∷ next ∷ rest) part.Setup none one same = let n = ap length same in omega (arith, n)
-many_given (first ∷ next ∷ rest) part.Forecast none one same = let n = ap length same in omega (arith, n)
-many_given (first ∷ next ∷ rest) part.Plan none one same = let n = ap length same in omega (arith, n)
-many_given (first ∷ next ∷ rest) part.Timeline none one same = let n = ap length same in omega (arith, n)
 
 -- a flag with the two words after it
 pub kept_given : (flags : List (Bor Text)) → length flags ≡ 3 → (slice_index_or flags 0 no_word).now ≡ keep_flag
