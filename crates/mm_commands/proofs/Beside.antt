@@ -6,7 +6,7 @@ use Rattle.std.proofs.lemmas.List.Elements.{All-nil, All-cons, All-append}
 use Rattle.std.specs.List.{list_any}
 use Rattle.std.specs.Str.{NoCharPasses}
 use Rattle.std.specs.Str.Pattern.{HasCharAt, RFindsChar}
-use Rattle.std.proofs.lemmas.List.{take-drop}
+use Rattle.std.proofs.lemmas.List.{take-append-drop}
 use Rattle.std.proofs.lemmas.Str.Pattern.{NoCharPasses-char, drop_at_char}
 use Rattle.mm_files.specs.Contents.{Reading}
 use Rattle.mm_mission_text.specs.declared.document.MissionText.{MissionText}
@@ -65,7 +65,7 @@ pub folder_found : (name front : List ℕ) (i j : ℕ) → RFindsChar 47 name (S
     → folder_of name ≡ front ++ 47 ∷ []
 folder_found name front i j found before =
     let whole : name ≡ front ++ 47 ∷ drop j name =
-    sym (take-drop i name) ∙ ap₂ (λ a b. a ++ b) (sym before) (drop_at_char 47 name i j found.1 (lit< tt)) in
+    sym (take-append-drop i name) ∙ ap₂ (λ a b. a ++ b) (sym before) (drop_at_char 47 name i j found.1 (lit< tt)) in
     ap folder_of whole ∙ folder_before front (drop j name) (none_is (drop j name) found.0)
 
 -- ---- names and readings

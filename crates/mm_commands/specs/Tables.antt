@@ -39,8 +39,8 @@ readings_at names texts =
     ++ reading_at (option_map string_bytes names.observations) texts.observations.items)
 
 -- neither the mission nor a table has this name
-pub record AreApart (mission : List ℕ) (names : TableNames) (name : List ℕ) : Type 0 where
-  pub mission : mission ≢ name
+pub record AreApart (path : List ℕ) (names : TableNames) (name : List ℕ) : Type 0 where
+  pub mission : path ≢ name
   pub stores : IfSome (option_map string_bytes names.stores) (λ table. table ≢ name)
   pub stations : IfSome (option_map string_bytes names.stations) (λ table. table ≢ name)
   pub passes : IfSome (option_map string_bytes names.passes) (λ table. table ≢ name)

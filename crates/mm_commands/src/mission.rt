@@ -75,7 +75,8 @@ fn refusal_of(fault: &mm_mission_plan::Fault) -> Refusal
         mm_mission_plan::Fault::NotGiven { .. } | mm_mission_plan::Fault::NotNamed { .. } => {
             Refusal::MissionTable
         }
-        mm_mission_plan::Fault::Exact(_) | mm_mission_plan::Fault::Mission(_) => Refusal::MissionRow,
+        mm_mission_plan::Fault::Exact(_) | mm_mission_plan::Fault::Mission(_) =>
+            Refusal::MissionRow,
     }
 }
 
@@ -137,7 +138,7 @@ fn refuse_mission<W: Write, E: Write>(
     ensures status { IfOk result (λ status. status ≡ Refused) }
 {
     let status = refuse(Some(asked.task()), told_fault(&fault), None, out, err)?;
-    if !matches!(fault, mm_mission_plan::Fault::NoMemory) {
+    if !matches!(&fault, mm_mission_plan::Fault::NoMemory) {
         writeln!(err, "hint: {fault}").map_err(|_| Unwritten::Messages)?;
     }
     Ok(status)

@@ -64,13 +64,8 @@ fn beside(alloc: Global, mission: &str, table: &str) -> Result<String, NoMemory>
 }
 
 // The name of a table's file, if the mission names one.
-fn named(
-    alloc: Global,
-    mission: &str,
-    table: Option<&Text>,
-) -> Result<Option<String>, NoMemory>
-    ensures { IfOk result (λ name. option_map string_bytes name
-        ≡ option_map (λ table. beside mission.now table.now) table.entry) }
+fn named(alloc: Global, mission: &str, table: &Option<Text>) -> Result<Option<String>, NoMemory>
+    ensures { IfOk result (λ name. option_map string_bytes name ≡ option_map (beside mission.now) table.now) }
 {
     match table {
         Some(table) => Ok(Some(beside(alloc, mission, table.as_str())?)),
@@ -108,10 +103,10 @@ impl TableNames {
         ensures { IfOk result (AreNames mission.now said.now) }
     {
         Ok(TableNames {
-            stores: named(alloc, mission, said.stores.file.as_ref())?,
-            stations: named(alloc, mission, said.stations.file.as_ref())?,
-            passes: named(alloc, mission, said.passes.file.as_ref())?,
-            observations: named(alloc, mission, said.observations.file.as_ref())?,
+            stores: named(alloc, mission, &said.stores.file)?,
+            stations: named(alloc, mission, &said.stations.file)?,
+            passes: named(alloc, mission, &said.passes.file)?,
+            observations: named(alloc, mission, &said.observations.file)?,
         })
     }
 }
@@ -129,10 +124,18 @@ impl MissionTables {
             (names_at names.now)) }
         ensures stays { F.content files.new ≡ F.content files.old }
     {
-        let (stores, stations) =
-            read_two(alloc, files, lent(&names.stores), lent(&names.stations))?;
-        let (passes, observations) =
-            read_two(alloc, files, lent(&names.passes), lent(&names.observations))?;
+        let (stores, stations) = read_two(
+            alloc,
+            files,
+            lent(&names.stores),
+            lent(&names.stations),
+        )?;
+        let (passes, observations) = read_two(
+            alloc,
+            files,
+            lent(&names.passes),
+            lent(&names.observations),
+        )?;
         Ok(MissionTables {
             stores,
             stations,
