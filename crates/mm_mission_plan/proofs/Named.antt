@@ -1,6 +1,6 @@
 -- The names of passes, one after the other.
-use Rattle.std.proofs.Common.{◌≡◌, ◌∙◌, ℕ, ◌+◌, ◌<◌, Bool, true, false, List, [], ◌∷◌, ◌++◌, String, Global, string_bytes}
-use Rattle.std.proofs.Common.{refl, ap, ap₂, sym, subst, arith, length, get_or, take}
+use Rattle.std.proofs.Common.{◌≡◌, ◌∙◌, ℕ, ◌+◌, ◌<◌, true, false, List, [], ◌∷◌, ◌++◌, String, Global, string_bytes}
+use Rattle.std.proofs.Common.{ap, ap₂, sym, arith, length, get_or, take}
 use Rattle.std.specs.Prelude.{map}
 use Rattle.std.specs.List.{count_by, enumerate_from}
 use Rattle.std.proofs.lemmas.List.{map-append, length-map, get_or-map, take_more}
@@ -54,7 +54,7 @@ module _ (passes : List Pass) (rows : List ℕ) (i : ℕ) (below : i < length ro
   names_more found n before name station =
       let this : name_cells n ≡ named passes (get_or rows i 0) = ap₂ (λ a b. a ∷ b ∷ []) name station in
       let all : map (named passes) (take (i + 1) rows)
-          ≡ map (named passes) (take i rows) ++ named passes (get_or rows i 0) ∷ [] =
+      ≡ map (named passes) (take i rows) ++ named passes (get_or rows i 0) ∷ [] =
       ap (map (named passes)) (take_more rows i 0 below)
       ∙ map-append (named passes) (take i rows) (get_or rows i 0 ∷ []) in
       map-append name_cells found (n ∷ []) ∙ ap₂ (λ xs x. xs ++ x ∷ []) before this ∙ sym all

@@ -1,14 +1,12 @@
 -- The texts of a mission's problem.
-use Rattle.std.proofs.Common.{◌≡◌, ◌∙◌, ℕ, ◌+◌, ◌-◌, ◌*◌, ◌<◌, ◌≤◌, List, [], ◌∷◌, refl, ap, arith, length, get_or, subst, sym}
-use Rattle.std.specs.Prelude.{map, min, All, Ok}
+use Rattle.std.proofs.Common.{◌≡◌, ◌∙◌, ℕ, ◌+◌, ◌-◌, ◌<◌, ◌≤◌, List, [], ◌∷◌, refl, ap, arith, length, get_or}
+use Rattle.std.specs.Prelude.{All, Ok}
 use Rattle.std.specs.List.{flat_map, range_with_len}
 use Rattle.std.proofs.Common.{zero, suc, length-append}
 use Rattle.std.proofs.lemmas.List.{length-map, get_or-map}
-use Rattle.mm_mission.specs.declared.counter.Counter.{Counter}
 use Rattle.mm_mission.specs.declared.counter.Counter.TheVariants.{Sent}
 use Rattle.mm_mission.specs.Mission.{MissionRows, store_at, no_store}
 use Rattle.mm_mission.specs.Planned.{row_of, growths, IsProblemOf}
-use Rattle.mm_problem.specs.declared.come.Arrivals.{Arrivals}
 use Rattle.mm_problem.specs.Document.{setup_of}
 use Rattle.mm_problem.specs.Dumping.{Dumping, IsDumping, row, no_row}
 use Rattle.mm_problem.specs.Laws.{ReadsForecasts}

@@ -1,11 +1,12 @@
 -- The search for the least unit.
-use Rattle.std.proofs.Common.{◌≡◌, ◌≢◌, ℕ, ◌+◌, ◌-◌, ◌*◌, ◌<◌, ◌≤◌, Bool, true, false, Result, Ok, Err, refl, ap, subst, sym}
-use Rattle.std.proofs.Common.{◌∙◌, inl, inr, arith}
+use Rattle.std.proofs.Common.{◌≡◌, ◌≢◌, ℕ, ◌+◌, ◌-◌, ◌*◌, ◌<◌, ◌≤◌, Bool, true, false, Result, Ok, Err}
+use Rattle.std.proofs.Common.{refl, ap, subst, sym}
+use Rattle.std.proofs.Common.{inl, inr, arith}
 use Rattle.std.specs.Prelude.{◌⊎◌, IsTrue}
 use Rattle.mm_mission.specs.declared.limits.TheConstants.{MAX_UNIT}
 use Rattle.mm_mission_exact.specs.declared.rows.Rows.{Rows}
 use Rattle.mm_mission_plan.specs.Faults.{is_small}
-use Rattle.mm_mission_plan.specs.Units.{is_too_small, IsOutcome, IsRefusal, IsTooSmall, IsTried, IsFound, IsLeast}
+use Rattle.mm_mission_plan.specs.Units.{is_too_small, IsOutcome, IsTooSmall, IsTried, IsFound, IsLeast}
 use Rattle.mm_mission_plan.specs.Units.{IsLeastFault}
 use Rattle.mm_mission_plan.specs.declared.fault.Fault.{Fault}
 use Rattle.mm_mission_plan.specs.declared.fault.Fault.TheVariants.{NoMemory}
@@ -13,7 +14,7 @@ use Rattle.mm_mission_plan.specs.declared.unit.Found.{Found}
 use Rattle.mm_mission_plan.specs.declared.unit.Tried.{Tried}
 
 is_true : (b : Bool) → b ≡ true → IsTrue b
-is_true true h = tt
+is_true true h = refl
 is_true false h = absurd (cc)
 
 -- of a unit that is too small comes its fault
@@ -60,7 +61,7 @@ module _ (rows : Rows) where
       most = omega (arith, is.tried.most);
       outcome = outcome;
     };
-    enough = λ small. absurd (subst IsTrue enough small);
+    enough = λ small. let no : false ≡ true = subst IsTrue enough small in absurd (cc);
   }
 
   module _ (found : Found) (is : IsFound rows found) (next : found.low + 1 ≡ found.high) where

@@ -1,6 +1,6 @@
 -- The stages from rows to a problem, and their faults.
 use Rattle.std.proofs.Common.{◌≡◌, ◌≢◌, ℕ, Result, Ok, Err, refl, ap, subst, ◌∙◌, length, inl, inr, ◌+◌, ◌<◌, List}
-use Rattle.mm_base.specs.Reading.{◌>>=◌, Gives, test}
+use Rattle.mm_base.specs.Reading.{Gives, test}
 use Rattle.mm_base.proofs.ReadingSteps.{bind_ok, ok_same}
 use Rattle.mm_base.specs.declared.limits.TheConstants.{MAX_STEPS}
 use Rattle.mm_mission.specs.Edges.{AreEdges}
@@ -12,10 +12,9 @@ use Rattle.mm_mission.specs.Mission.{observations_fit}
 use Rattle.mm_mission_exact.specs.declared.fault.Fault as exact
 use Rattle.mm_mission_exact.specs.declared.rows.Rows.{Rows}
 use Rattle.mm_mission_exact.specs.Exact.{ExactRows, exact_of}
-use Rattle.mm_mission_exact.specs.Laws.{mission_of}
 use Rattle.mm_mission_text.specs.Cells.{told_as}
 use Rattle.mm_mission_plan.specs.Faults.{exact_fault, mission_fault}
-use Rattle.mm_mission_plan.specs.Units.{numbers_of, flown_of, IsOutcome}
+use Rattle.mm_mission_plan.specs.Units.{mission_of, numbers_of, flown_of, IsOutcome}
 use Rattle.mm_mission_plan.specs.declared.fault.Fault.{Fault}
 use Rattle.mm_mission_plan.specs.declared.fault.Fault.TheVariants.{NoMemory}
 use Rattle.mm_mission_plan.specs.declared.flown.Flown.{Flown}
@@ -94,7 +93,7 @@ module _ (rows : Rows) (unit : ℕ) (f : Flown) (flown : flown_of rows unit ≡ 
         → IsOutcome rows unit (Err e)
     refused_steps many = λ other.
         let facts = many (other_fault other) in
-        inr (numbers_of f, flown, facts.1.0, facts.1.1.0, inl (told ∙ ap mission_fault facts.0, facts.1.1.1))
+        inr (numbers_of f, flown, (facts.1.0, facts.1.1, inl (told ∙ ap mission_fault facts.0, facts.1.2)))
 
     -- so is a problem that is refused
     pub refused_problem : (edges : List ℕ) → AreEdges f.mission edges
@@ -102,4 +101,4 @@ module _ (rows : Rows) (unit : ℕ) (f : Flown) (flown : flown_of rows unit ≡ 
     refused_problem edges are refused = λ other.
         let of : told_as mission_fault (problem_of f.mission edges) ≡ Err e =
         rw (refused (other_fault other), told) refl in
-        inr (numbers_of f, flown, edges, are, inr of)
+        inr (numbers_of f, flown, (edges, are, inr of))

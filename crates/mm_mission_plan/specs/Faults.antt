@@ -14,7 +14,8 @@ use Rattle.mm_mission_text.specs.declared.mission_fault.MissionFault.{MissionFau
 use Rattle.mm_mission_text.specs.declared.mission_fault.MissionFault.TheVariants as of_text
 use Rattle.mm_problem.specs.declared.fault.Fault.TheVariants as of_problem
 use Rattle.mm_mission_plan.specs.declared.fault.Fault.{Fault}
-use Rattle.mm_mission_plan.specs.declared.fault.Fault.TheVariants.{NoMemory, Text, NotGiven, NotNamed, Table, Exact, Mission}
+use Rattle.mm_mission_plan.specs.declared.fault.Fault.TheVariants.{NoMemory, Text, NotGiven, NotNamed, Table}
+use Rattle.mm_mission_plan.specs.declared.fault.Fault.TheVariants.{Exact, Mission}
 
 abbrev pub text_fault : MissionFault → Fault
 text_fault of_text.NoMemory = NoMemory

@@ -6,7 +6,6 @@ use Rattle.mm_mission.specs.Packets.{all_steps, sent_in}
 use Rattle.mm_mission.specs.Planned.{IsProblemOf}
 use Rattle.mm_mission.specs.Timeline.{amount, IsTimeline}
 use Rattle.mm_mission_exact.specs.Exact.{ExactRows, exact_of}
-use Rattle.mm_mission_exact.specs.Laws.{mission_of}
 use Rattle.mm_mission_exact.specs.declared.rows.Rows.{Rows}
 use Rattle.mm_mission_sheet.specs.Cells.{csv_text}
 use Rattle.mm_mission_sheet.specs.Sheets.{sheet_lines, sheet_rows}
@@ -22,7 +21,7 @@ use Rattle.mm_problem.specs.Texts.{SaysProblem}
 use Rattle.mm_mission_plan.specs.Faults.{text_fault}
 use Rattle.mm_mission_plan.specs.Names.{AreNames}
 use Rattle.mm_mission_plan.specs.Rows.{TableTexts, said_by, rows_in}
-use Rattle.mm_mission_plan.specs.Units.{IsUnit, IsUnitFault}
+use Rattle.mm_mission_plan.specs.Units.{mission_of, IsUnit, IsUnitFault}
 use Rattle.mm_mission_plan.specs.declared.fault.Fault.{Fault}
 use Rattle.mm_mission_plan.specs.declared.plan.PlannedMission.{PlannedMission}
 

@@ -79,7 +79,7 @@ rows_in said tables = do
   stations ← with_rows column.Stations stations_in said.stations.entries said.stations.file tables.stations
   passes ← with_rows column.Passes passes_in said.passes.entries said.passes.file tables.passes
   observations ← with_rows column.Observations observations_in said.observations.entries said.observations.file
-    tables.observations
+      tables.observations
   Ok (record {
     whole = said.whole;
     stores = stores;

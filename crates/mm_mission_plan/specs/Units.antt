@@ -9,7 +9,6 @@ use Rattle.mm_mission.specs.Edges.{AreEdges}
 use Rattle.mm_mission.specs.Mission.{MissionRows, mission_from}
 use Rattle.mm_mission.specs.Planned.{problem_of, IsProblemOf}
 use Rattle.mm_mission_exact.specs.Exact.{ExactRows, exact_of}
-use Rattle.mm_mission_exact.specs.Laws.{mission_of}
 use Rattle.mm_mission_exact.specs.declared.rows.Rows.{Rows}
 use Rattle.mm_mission_text.specs.Cells.{told_as}
 use Rattle.mm_mission_plan.specs.Faults.{exact_fault, mission_fault, is_small}
@@ -20,6 +19,10 @@ use Rattle.mm_mission_plan.specs.declared.unit.Found.{Found}
 use Rattle.mm_mission_plan.specs.declared.unit.Tried.{Tried}
 
 -- ---- a mission in a unit
+
+-- the mission of exact numbers
+abbrev pub mission_of : ExactRows → MissionRows
+mission_of e = record { lasts = e.lasts; stores = e.stores; passes = e.passes; observations = e.observations }
 
 -- the exact numbers of the program
 abbrev pub numbers_of : Flown → ExactRows

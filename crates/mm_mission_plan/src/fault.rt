@@ -4,8 +4,8 @@ use mm_mission_text::{Column, MissionFault};
 use std::alloc::{AllocError, AllocFailed};
 use std::fmt;
 
-/// Why a mission is not planned: its first fault, in this order; of files, first of stores, then of stations, passes and
-/// observations.
+/// Why a mission is not planned: its first fault, in this order; of files, first of stores, then of stations, passes
+/// and observations.
 #[derive(Debug, Drop)]
 pub enum Fault {
     NoMemory,
@@ -63,7 +63,9 @@ impl Fault {
                 row.saturating_add(1)
             ),
             mm_mission::Fault::TooManySteps => {
-                f.write_str("more than 256 steps: too many begins and ends of passes and observations")
+                f.write_str(
+                    "more than 256 steps: too many begins and ends of passes and observations",
+                )
             }
             mm_mission::Fault::Problem {
                 fault: mm_problem::Fault::Limit { name },

@@ -6,11 +6,10 @@ mod flown;
 mod names;
 mod plan;
 mod rows;
-mod texts;
-mod unit;
-
 #[cfg(test)]
 mod tests;
+mod texts;
+mod unit;
 
 pub use fault::Fault;
 pub use plan::{PlannedMission, plan_mission, plan_mission_text};

@@ -1,6 +1,7 @@
 //! What passes are called.
 ghost use Rattle.std.specs.Prelude.{◌≡◌, map, string_bytes, IfOk};
-ghost use Rattle.mm_mission_plan.specs.Names.{comes_before, is_counted, number_of, own_name, name_of, station_of, AreNames};
+ghost use Rattle.mm_mission_plan.specs.Names.{comes_before, is_counted, number_of, own_name, name_of, station_of};
+ghost use Rattle.mm_mission_plan.specs.Names.{AreNames};
 
 use mm_base::NoMemory;
 use mm_mission_sheet::PassName;

@@ -94,8 +94,8 @@ fn plan_rows(alloc: Global, rows: &Rows<'_>) -> Result<PlannedMission, Fault>
 /// A plan of a mission that loses least, from the mission as its text says it and the texts of the CSV files that it
 /// names to what is printed. Otherwise the first fault, in the order of the faults.
 ///
-/// The unit is the mission's own, if it can be planned in it. Otherwise it is 1, or no size, window, limit or arrival is
-/// above 1,000,000 while one is in the next lower unit.
+/// The unit is the mission's own, if it can be planned in it. Otherwise it is 1, or no size, window, limit or arrival
+/// is above 1,000,000 while one is in the next lower unit.
 pub fn plan_mission(
     alloc: Global,
     said: MissionText,

@@ -14,8 +14,8 @@ ghost use Rattle.mm_mission_plan.specs.declared.fault.Fault.TheVariants.{NoMemor
 use crate::fault::Fault;
 use mm_mission_exact::Rows;
 use mm_mission_text::{
-    Column, Given, MissionText, Observation, PacketStore, Pass, Station, Whole, observations, passes,
-    stations, stores,
+    Column, Given, MissionText, Observation, PacketStore, Pass, Station, Whole, observations,
+    passes, stations, stores,
 };
 use std::alloc::Global;
 

@@ -1,4 +1,4 @@
-use Rattle.std.proofs.Common.{◌≡◌, ◌∙◌, ◌<◌, arith, length}
+use Rattle.std.proofs.Common.{◌∙◌, ◌<◌, arith, length}
 use Rattle.mm_mission_plan.proofs.Named.{name_at, names_more}
 use Rattle.mm_mission_plan.proofs.names.pass_names.Goals as goal
 

@@ -1,4 +1,4 @@
-use Rattle.std.proofs.Common.{ℕ, ◌-◌, ◌*◌}
+use Rattle.std.proofs.Common.{◌-◌, ◌*◌}
 use Rattle.mm_mission.specs.declared.limits.TheConstants.{MAX_UNIT}
 use Rattle.mm_mission_plan.specs.Units.{IsTried}
 use Rattle.mm_mission_plan.proofs.unit.doubled.Given as goal

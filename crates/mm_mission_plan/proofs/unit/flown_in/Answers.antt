@@ -1,8 +1,8 @@
-use Rattle.std.proofs.Common.{◌≡◌, ◌∙◌, ◌+◌, ◌<◌, ap, subst, sym, length}
+use Rattle.std.proofs.Common.{◌∙◌, ◌+◌, ◌<◌, ap, subst, sym, length}
 use Rattle.mm_utc.specs.declared.moment.TheConstants.{MOMENTS}
 use Rattle.mm_mission.specs.Mission.{MissionRows}
 use Rattle.mm_mission_exact.specs.Exact.{ExactRows, seen}
-use Rattle.mm_mission_exact.specs.Laws.{mission_of}
+use Rattle.mm_mission_plan.specs.Units.{mission_of}
 use Rattle.mm_mission_plan.proofs.Stages.{mission_is, flown_is}
 use Rattle.mm_mission_plan.proofs.unit.flown_in.Goals as goal
 

@@ -1,4 +1,4 @@
-use Rattle.std.proofs.Common.{ℕ, ◌-◌}
+use Rattle.std.proofs.Common.{◌-◌}
 use Rattle.mm_mission_plan.specs.Units.{IsFound}
 use Rattle.mm_mission_plan.proofs.unit.halved.Given as goal
 
