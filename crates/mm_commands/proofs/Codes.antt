@@ -99,16 +99,22 @@ refused-kept streams old new (Read packets) texts status text before after other
 refused-kept streams old new (Mission mission part output) texts status text before after other answers given =
     absurd answers
 
+-- a task that was settled, and not done, leaves the files as they were
+settled-kept : (old new : FilesView) (task : Task) (status : Status) (before after : Option (List ℕ))
+    → status ≢ Done → Completes old new task status before after ⊎ Refuses old new task status before after
+    → new.contents ≡ old.contents
+settled-kept old new task status before after other (inl (inl prints)) =
+    refused-kept old.streams old.contents new.contents task prints.texts status prints.text before after other
+    prints.answers prints.given
+settled-kept old new task status before after other (inl (inr planned)) = absurd (other planned.status_is)
+settled-kept old new task status before after other (inr refuses) = refuses.kept
+
 -- a task that is not done leaves the files as they were
 does-kept : (old new : FilesView) (words : List (List ℕ)) (status : Status) (before after : Option (List ℕ))
     → status ≢ Done → Does old new words status before after → new.contents ≡ old.contents
 does-kept old new words status before after other (inr rest) = ap (λ (view : FilesView). view.contents) rest.0
-does-kept old new words status before after other (inl task) = elim task.told [
-  | inl (inl prints) ↦ refused-kept old.streams old.contents new.contents task.task prints.texts status prints.text
-      before after other prints.answers prints.given
-  | inl (inr planned) ↦ absurd (other planned.status_is)
-  | inr refuses ↦ refuses.kept
-]
+does-kept old new words status before after other (inl task) =
+    settled-kept old new task.task status before after other task.told
 
 -- a run of the program that does not end with 0 leaves the files as they were
 pub code-kept : {E : Type 0} (old new : FilesView) (words : List (List ℕ)) (before after : Option (List ℕ))
