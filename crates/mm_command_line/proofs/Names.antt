@@ -11,7 +11,7 @@ use Rattle.mm_command_line.specs.declared.task.FlightPlan.{FlightPlan}
 use Rattle.mm_command_line.specs.declared.task.FlightPlan.TheVariants.{Given, Made}
 use Rattle.mm_command_line.specs.declared.task.Task.{Task}
 use Rattle.mm_command_line.specs.declared.task.Task.TheVariants.{Plan, Keep, Check, Chart, Table, Rest, Sensitivity}
-use Rattle.mm_command_line.specs.declared.task.Task.TheVariants.{Fly, Ask, Read}
+use Rattle.mm_command_line.specs.declared.task.Task.TheVariants.{Fly, Ask, Read, Mission}
 use Rattle.mm_command_line.proofs.Walking.{is_value}
 
 abbrev Text : Type 0
@@ -85,6 +85,7 @@ row_of (Sensitivity setup forecast output) =
 row_of (Fly f) = flight_row f.setup.now f.forecast.now f.sources.now f.links.now f.plan
 row_of (Ask setup requests) = of_row (codes "ask") (setup.now ∷ requests.now ∷ []) _ refl refl refl
 row_of (Read packets) = of_row (codes "read") (packets.now ∷ []) _ refl refl refl
+row_of (Mission mission part output) = of_row (codes "mission") (mission.now ∷ []) _ refl refl refl
 
 -- the row of the line of a command
 pub line_row : (words : List Text) → IsCommandLine words → IsOfRow words

@@ -20,6 +20,7 @@ name_of file.Sources = codes "SOURCES"
 name_of file.Links = codes "LINKS"
 name_of file.Requests = codes "REQUESTS"
 name_of file.Packets = codes "PACKETS"
+name_of file.Mission = codes "MISSION"
 
 -- the word of a command, and what help calls its files
 abbrev pub Entry : Type 0
@@ -40,6 +41,7 @@ commands =
     ∷ (codes "fly", codes "SETUP" ∷ codes "FORECAST" ∷ codes "SOURCES" ∷ codes "LINKS" ∷ [])
     ∷ (codes "ask", codes "SETUP" ∷ codes "REQUESTS" ∷ [])
     ∷ (codes "read", codes "PACKETS" ∷ [])
+    ∷ (codes "mission", codes "MISSION" ∷ [])
     ∷ []
 
 -- the name of a file, which has to be there

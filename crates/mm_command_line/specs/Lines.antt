@@ -12,7 +12,9 @@ use Rattle.mm_command_line.specs.declared.task.KeptSteps.{KeptSteps}
 use Rattle.mm_command_line.specs.declared.task.PlanFiles.{PlanFiles}
 use Rattle.mm_command_line.specs.declared.task.Task.{Task}
 use Rattle.mm_command_line.specs.declared.task.Task.TheVariants.{Plan, Keep, Check, Chart, Table, Rest, Sensitivity}
-use Rattle.mm_command_line.specs.declared.task.Task.TheVariants.{Fly, Ask, Read}
+use Rattle.mm_command_line.specs.declared.task.Task.TheVariants.{Fly, Ask, Read, Mission}
+use Rattle.mm_command_line.specs.declared.task.MissionPart.{MissionPart}
+use Rattle.mm_command_line.specs.declared.task.MissionPart.TheVariants as part
 
 -- the names of the files of a judged plan
 abbrev pub plan_names : PlanFiles → List (List ℕ)
@@ -46,6 +48,7 @@ command_words (Sensitivity setup forecast output) = codes "sensitivity" ∷ setu
 command_words (Fly f) = flight_spelling f.setup.now f.forecast.now f.sources.now f.links.now f.plan
 command_words (Ask setup requests) = codes "ask" ∷ setup.now ∷ requests.now ∷ []
 command_words (Read packets) = codes "read" ∷ packets.now ∷ []
+command_words (Mission mission part output) = codes "mission" ∷ mission.now ∷ []
 
 -- the file that the text of a task goes into, where one is named
 abbrev pub output_of : Task → Option (Bor (List ℕ))
@@ -55,6 +58,7 @@ output_of (Chart files worth output) = output
 output_of (Table files output) = output
 output_of (Rest kept output) = output
 output_of (Sensitivity setup forecast output) = output
+output_of (Mission mission part output) = output
 output_of task = None
 
 -- the flag of `plan` and `fly`: the stores are served in the setup's order
@@ -68,6 +72,27 @@ worth_flag = codes "--worth"
 -- the flag of `run`: where a link halts the run, the script that plans the rest comes before the report
 abbrev pub rest_flag : List ℕ
 rest_flag = codes "--rest"
+
+-- the flags of `mission`: the setup, the forecast, the plan text or the timeline is printed in place of the sheet
+abbrev pub setup_flag : List ℕ
+setup_flag = codes "--setup"
+
+abbrev pub forecast_flag : List ℕ
+forecast_flag = codes "--forecast"
+
+abbrev pub plan_flag : List ℕ
+plan_flag = codes "--plan"
+
+abbrev pub timeline_flag : List ℕ
+timeline_flag = codes "--timeline"
+
+-- the flag that asks for this part of a planned mission; the sheet has none
+abbrev pub part_flags : MissionPart → List (List ℕ)
+part_flags part.Sheet = []
+part_flags part.Setup = setup_flag ∷ []
+part_flags part.Forecast = forecast_flag ∷ []
+part_flags part.Plan = plan_flag ∷ []
+part_flags part.Timeline = timeline_flag ∷ []
 
 -- the flag of `plan`: the first steps of a plan are kept
 abbrev pub keep_flag : List ℕ
@@ -92,6 +117,7 @@ flag_of (Plan setup forecast in_order output) = flags_if in_order order_flag
 flag_of (Keep kept output) = keep_words kept.files.plan.now kept.last.now
 flag_of (Chart files worth output) = flags_if worth worth_flag
 flag_of (Fly f) = flight_flags f.plan
+flag_of (Mission mission part output) = part_flags part
 flag_of task = []
 
 -- the word is no flag: it begins with `-` only if it is `-` alone
@@ -176,9 +202,14 @@ output_flag = codes "--output"
 abbrev pub output_prefix : List ℕ
 output_prefix = codes "--output="
 
+-- the word asks for a part of a planned mission
+abbrev pub is_part_flag : List ℕ → Bool
+is_part_flag word = bytes_eq word setup_flag || bytes_eq word forecast_flag || bytes_eq word plan_flag
+    || bytes_eq word timeline_flag
+
 -- the word is the flag of a command
 abbrev pub is_task_flag : List ℕ → Bool
-is_task_flag word = bytes_eq word order_flag || bytes_eq word worth_flag || bytes_eq word rest_flag
+is_task_flag word = bytes_eq word order_flag || bytes_eq word worth_flag || bytes_eq word rest_flag || is_part_flag word
 
 -- the name in such a word
 abbrev pub joined_name : List ℕ → Option (List ℕ)

@@ -7,10 +7,10 @@ use Rattle.mm_command_line.specs.declared.task.FlightPlan.TheVariants.{Given, Ma
 use Rattle.mm_command_line.specs.declared.task.PlanFiles.{PlanFiles}
 use Rattle.mm_command_line.specs.declared.task.Task.{Task}
 use Rattle.mm_command_line.specs.declared.task.Task.TheVariants.{Plan, Keep, Check, Chart, Table, Rest, Sensitivity}
-use Rattle.mm_command_line.specs.declared.task.Task.TheVariants.{Fly, Ask, Read}
+use Rattle.mm_command_line.specs.declared.task.Task.TheVariants.{Fly, Ask, Read, Mission}
 
 abbrev pub no_names : FileNames
-no_names = record { setup = None; forecast = None; plan = None; sources = None; links = None; packets = None }
+no_names = record { setup = None; forecast = None; plan = None; sources = None; links = None; other = None }
 
 -- the name of the plan of a run, where it is given
 abbrev pub name_of_plan : FlightPlan → Option (Bor (List ℕ))
@@ -38,5 +38,6 @@ names_in (Fly f) = record no_names {
   sources = Some f.sources;
   links = Some f.links;
 }
-names_in (Ask setup requests) = record no_names { setup = Some setup; packets = Some requests }
-names_in (Read packets) = record no_names { packets = Some packets }
+names_in (Ask setup requests) = record no_names { setup = Some setup; other = Some requests }
+names_in (Read packets) = record no_names { other = Some packets }
+names_in (Mission mission part output) = record no_names { other = Some mission }

@@ -51,6 +51,7 @@ Examples:
   mm_tool fly setup.toml forecast.csv sources.hex links.txt
   mm_tool ask setup.toml requests.hex
   mm_tool read packets.hex
+  mm_tool mission mission.toml --output sheet.csv
   mm_tool --version           prints the version, and the kit that the program is proved with
 
 Exit status: 0 if the task is done (check: the plan is least; ask and read: nothing is refused); 1 if something is

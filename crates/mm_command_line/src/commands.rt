@@ -2,9 +2,9 @@
 
 use crate::command::Form;
 use crate::file::File::{
-    FlownPlan, Forecast, Links, Packets, Plan, Requests, Setup, Sources, Step,
+    FlownPlan, Forecast, Links, Mission, Packets, Plan, Requests, Setup, Sources, Step,
 };
-use crate::{chart, flight, read, rest, sensitivity, table};
+use crate::{chart, flight, mission, read, rest, sensitivity, table};
 
 // The commands: the word of each, its files, the words of a whole line after the program's name, and its help.
 macro_rules! commands {
@@ -13,7 +13,7 @@ macro_rules! commands {
     };
 }
 
-pub(crate) static COMMANDS: [Form; 10] = commands! {
+pub(crate) static COMMANDS: [Form; 11] = commands! {
     "plan" [Setup, Forecast]: "plan [--in-order | --keep <PLAN> <STEP>] <SETUP> <FORECAST> [--output <FILE>]",
         PLAN_ABOUT, PLAN_HELP;
     "check" [Setup, Forecast, Plan]: "check <SETUP> <FORECAST> <PLAN>", CHECK_ABOUT, CHECK_HELP;
@@ -30,6 +30,8 @@ pub(crate) static COMMANDS: [Form; 10] = commands! {
         flight::FLY_ABOUT, flight::FLY_HELP;
     "ask" [Setup, Requests]: "ask <SETUP> <REQUESTS>", ASK_ABOUT, ASK_HELP;
     "read" [Packets]: "read <PACKETS>", read::ABOUT, read::HELP;
+    "mission" [Mission]: "mission [--setup | --forecast | --plan | --timeline] <MISSION> [--output <FILE>]",
+        mission::ABOUT, mission::HELP;
 };
 
 const PLAN_ABOUT: &str = "Plans the dumps so that the fewest blocks are lost";

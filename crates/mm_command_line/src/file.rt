@@ -16,6 +16,7 @@ pub(crate) enum File {
     Links,
     Requests,
     Packets,
+    Mission,
 }
 
 impl File {
@@ -32,6 +33,7 @@ impl File {
             File::Links => "LINKS",
             File::Requests => "REQUESTS",
             File::Packets => "PACKETS",
+            File::Mission => "MISSION",
         }
     }
 
@@ -47,6 +49,7 @@ impl File {
             File::Links => "The links: `links N`, then lines `fail LINK SEND`",
             File::Requests => "The requests: a telecommand per line, in hexadecimal digits",
             File::Packets => "The packets: one per line, in hexadecimal digits",
+            File::Mission => "The stores, stations, passes and observations in UTC, in TOML",
         }
     }
 }

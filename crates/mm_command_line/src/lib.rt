@@ -7,6 +7,7 @@ mod commands;
 mod file;
 mod flight;
 mod line;
+mod mission;
 mod options;
 mod read;
 mod rest;
@@ -17,6 +18,6 @@ mod version;
 mod wrong_flag;
 
 pub use line::parse;
-pub use task::{FileNames, FlightFiles, FlightPlan, KeptSteps, PlanFiles, Role, Task};
+pub use task::{FileNames, FlightFiles, FlightPlan, KeptSteps, MissionPart, PlanFiles, Role, Task};
 pub use version::{VERSION, asks_version};
 pub use wrong_flag::{FlagFault, flag_fault};

@@ -11,7 +11,7 @@ ghost use Rattle.mm_command_line.specs.Lines.{command_words, parts_in};
 use crate::command::{Form, form_of, tool_command};
 use crate::commands::COMMANDS;
 use crate::options::{Line, Next, is_file_name, read_line};
-use crate::task::{FlightFiles, FlightPlan, KeptSteps, PlanFiles, Task};
+use crate::task::{FlightFiles, FlightPlan, KeptSteps, MissionPart, PlanFiles, Task};
 use clap::error::ErrorKind;
 use clap::{ArgMatches, Command, Error};
 use std::alloc::{AllocError, Global};
@@ -49,6 +49,7 @@ fn task_of<'a>(words: &[&'a str]) -> Option<Task<'a>>
             Task::Fly(FlightFiles { setup, forecast, plan: FlightPlan::Made { in_order: false }, sources, links });
         ["ask", setup, requests] => Task::Ask { setup, requests };
         ["read", packets] => Task::Read { packets };
+        ["mission", mission] => Task::Mission { mission, part: MissionPart::Sheet, output: None };
     }
 }
 

@@ -1,9 +1,12 @@
 //! The words of a line by what they are: those of its command, its flags, and the names of its outputs.
-ghost use Rattle.std.specs.Prelude.{◌≡◌, ◌↔◌, ℕ, Bool, List, Option, IfOk, IfSome, IfNone, IsTrue, map, option_map};
+ghost use Rattle.std.specs.Prelude.{◌≡◌, ◌↔◌, ℕ, Bool, List, [], ◌∷◌, Option, IfOk, IfSome, IfNone, IsTrue};
+ghost use Rattle.std.specs.Prelude.{map, option_map};
 ghost use Rattle.std.specs.Borrow.{Bor};
-ghost use Rattle.mm_command_line.specs.Lines.{IsFileName, IsOutput, flags_if, is_task_flag, joined_name, keep_words};
-ghost use Rattle.mm_command_line.specs.Lines.{no_parts, parts_in, parts_of, read_word, with_option};
+ghost use Rattle.mm_command_line.specs.Lines.{IsFileName, IsOutput, flags_if, is_part_flag, is_task_flag, joined_name, keep_words};
+ghost use Rattle.mm_command_line.specs.Lines.{no_parts, part_flags, parts_in, parts_of, read_word, with_option};
+ghost use Rattle.mm_command_line.specs.declared.task.MissionPart.{MissionPart};
 
+use crate::task::MissionPart;
 use std::alloc::{AllocError, Global};
 use std::convert::AsStr;
 
@@ -24,6 +27,18 @@ pub(crate) const REST: &str = "--rest";
 
 /// The flag of `plan` before the file of a plan and the last of its steps that is kept.
 pub(crate) const KEEP: &str = "--keep";
+
+/// The flag of `mission`: the setup is printed.
+pub(crate) const SETUP: &str = "--setup";
+
+/// The flag of `mission`: the forecast is printed.
+pub(crate) const FORECAST: &str = "--forecast";
+
+/// The flag of `mission`: the plan text is printed.
+pub(crate) const PLAN: &str = "--plan";
+
+/// The flag of `mission`: the timeline is printed.
+pub(crate) const TIMELINE: &str = "--timeline";
 
 /// What the next word of a line may be.
 #[derive(Clone, Copy)]
@@ -61,10 +76,16 @@ pub(crate) fn is_file_name(word: &str) -> bool
     !word.starts_with('-') || word == "-"
 }
 
+fn is_part_flag(word: &str) -> bool
+    ensures { result ≡ is_part_flag word.now }
+{
+    word == SETUP || word == FORECAST || word == PLAN || word == TIMELINE
+}
+
 fn is_task_flag(word: &str) -> bool
     ensures { result ≡ is_task_flag word.now }
 {
-    word == IN_ORDER || word == WORTH || word == REST
+    word == IN_ORDER || word == WORTH || word == REST || is_part_flag(word)
 }
 
 // The name in a word `--output=NAME`.
@@ -185,6 +206,32 @@ pub(crate) fn kept_in<'a>(flags: &[&'a str]) -> Option<(&'a str, &'a str)>
         [flag, plan, last] if flag == KEEP && is_file_name(plan) && is_file_name(last) => {
             Some((plan, last))
         }
+        _ => None,
+    }
+}
+
+// The part of a planned mission with this flag.
+fn part_of(flag: &str) -> Option<MissionPart>
+    ensures given { IfSome result (λ part. part_flags part ≡ flag.now ∷ []) }
+    ensures none { IfNone result ((part : MissionPart) → part_flags part ≡ flag.now ∷ [] → ⊥) }
+{
+    match flag {
+        SETUP => Some(MissionPart::Setup),
+        FORECAST => Some(MissionPart::Forecast),
+        PLAN => Some(MissionPart::Plan),
+        TIMELINE => Some(MissionPart::Timeline),
+        _ => None,
+    }
+}
+
+/// The part of a planned mission that these flags ask for; none where they are others, or two are given.
+pub(crate) fn part_in(flags: &[&str]) -> Option<MissionPart>
+    ensures given { IfSome result (λ part. map (λ flag. flag.now) flags.now ≡ part_flags part) }
+    ensures none { IfNone result ((part : MissionPart) → map (λ flag. flag.now) flags.now ≡ part_flags part → ⊥) }
+{
+    match *flags {
+        [] => Some(MissionPart::Sheet),
+        [flag] => part_of(flag),
         _ => None,
     }
 }

@@ -4,7 +4,7 @@ ghost use Rattle.mm_command_line.specs.Lines.{HasNames, IsOutput, command_words,
 ghost use Rattle.mm_command_line.specs.Names.{names_in};
 ghost use Rattle.mm_command_line.specs.declared.task.Task.TheVariants.{Fly};
 
-use crate::options::{IN_ORDER, REST, WORTH, is_given, kept_in, output_in};
+use crate::options::{IN_ORDER, REST, WORTH, is_given, kept_in, output_in, part_in};
 
 /// What a file of a task has.
 #[derive(Clone, Copy)]
@@ -24,8 +24,8 @@ pub struct FileNames<'a> {
     pub plan: Option<&'a str>,
     pub sources: Option<&'a str>,
     pub links: Option<&'a str>,
-    /// The requests, or the packets.
-    pub packets: Option<&'a str>,
+    /// The requests, the packets, or the mission.
+    pub other: Option<&'a str>,
 }
 
 // The names of these files, and of no others.
@@ -83,7 +83,7 @@ impl<'a> FlightFiles<'a> {
             plan,
             sources: Some(self.sources),
             links: Some(self.links),
-            packets: None,
+            other: None,
         }
     }
 
@@ -111,6 +111,21 @@ impl<'a> FlightFiles<'a> {
             }
         }
     }
+}
+
+/// Which text of a planned mission is printed.
+#[derive(Clone, Copy)]
+pub enum MissionPart {
+    /// What each pass dumps of each store, in UTC.
+    Sheet,
+    /// The setup of the problem that was planned.
+    Setup,
+    /// Its forecast.
+    Forecast,
+    /// The dump plan with its loss and its cut.
+    Plan,
+    /// When each dump begins and ends, in UTC.
+    Timeline,
 }
 
 /// What the program is asked to do. Of a task with an `output` the text goes into the file of that name, and is printed
@@ -163,6 +178,12 @@ pub enum Task<'a> {
     /// Say what packets of the storage service hold.
     Read {
         packets: &'a str,
+    },
+    /// Plan a mission in UTC, and print this `part` of it.
+    Mission {
+        mission: &'a str,
+        part: MissionPart,
+        output: Option<&'a str>,
     },
 }
 
@@ -219,8 +240,9 @@ impl<'a> Task<'a> {
             Task::Keep { kept, .. } | Task::Rest { kept, .. } =>
                 names! { setup: kept.files.setup, forecast: kept.files.forecast, plan: kept.files.plan },
             Task::Fly(files) => files.names(),
-            Task::Ask { setup, requests } => names! { setup: setup, packets: requests },
-            Task::Read { packets } => names! { packets: packets },
+            Task::Ask { setup, requests } => names! { setup: setup, other: requests },
+            Task::Read { packets } => names! { other: packets },
+            Task::Mission { mission, .. } => names! { other: mission },
         }
     }
 
@@ -278,6 +300,14 @@ impl<'a> Task<'a> {
                 forecast,
                 output,
             }),
+            Task::Mission { mission, .. } => {
+                let part = part_in(flags)?;
+                Some(Task::Mission {
+                    mission,
+                    part,
+                    output,
+                })
+            }
             Task::Fly(files) => match output {
                 None => Some(Task::Fly(files.with_flags(flags)?)),
                 Some(_) => None,

@@ -1,23 +1,25 @@
 //! What is wrong with a flag that is not read.
 
-use crate::options::{IN_ORDER, KEEP, Next, OUTPUT, REST, WORTH, is_file_name};
+use crate::options::{
+    FORECAST, IN_ORDER, KEEP, Next, OUTPUT, PLAN, REST, SETUP, TIMELINE, WORTH, is_file_name,
+};
 use std::convert::AsStr;
 use std::{fmt, mem};
 
 /// The most characters in which a word may differ from a flag that is told as near, after what both begin with and what
-/// both end with.
+/// both end with. It is at most half of the flag's letters, too.
 const NEAR: usize = 3;
 
 // A flag, and what is said of it where it is meant.
 type Flag = (&'static str, &'static str);
 
-static FLAGS: [Flag; 7] = [
+static FLAGS: [Flag; 11] = [
     (IN_ORDER, "goes with plan and fly"),
     (WORTH, "goes with chart"),
     (REST, "goes with run"),
     (
         OUTPUT,
-        "goes with plan, chart, table, rest and sensitivity, and has the name of a file after it",
+        "goes with plan, chart, table, rest, sensitivity and mission, and has the name of a file after it",
     ),
     ("--help", "stands alone or after a command"),
     ("--version", "stands alone"),
@@ -25,6 +27,10 @@ static FLAGS: [Flag; 7] = [
         KEEP,
         "goes with plan, and has the file of a plan and a step of it after it",
     ),
+    (SETUP, "goes with mission"),
+    (FORECAST, "goes with mission"),
+    (PLAN, "goes with mission"),
+    (TIMELINE, "goes with mission"),
 ];
 
 /// What is wrong with a flag. It is shown in one line.
@@ -89,8 +95,8 @@ impl fmt::Display for FlagFault<'_> {
                 write! { f, "there is no flag '{word}'; did you mean {near}, which {place}?" },
             FlagFault::NoSuchFlag(word) => write! {
                 f, "there is no flag '{word}', and none is spelled alike; there are --in-order of plan and fly, \
-                    --keep PLAN STEP of plan, --worth of chart, --rest of run, --output FILE of plan, chart, table, rest and \
-                    sensitivity, and --help"
+                    --keep PLAN STEP of plan, --worth of chart, --rest of run, --setup, --forecast, --plan and --timeline \
+                    of mission, --output FILE of plan, chart, table, rest, sensitivity and mission, and --help"
             },
         }
     }
@@ -132,15 +138,19 @@ fn parts_of(word: &str) -> (&str, Option<&str>) {
 // An option of tasks: its flag, the commands that it goes with, and how these are told.
 type TaskOption = (&'static str, &'static [&'static str], &'static str);
 
-static OPTIONS: [TaskOption; 5] = [
+static OPTIONS: [TaskOption; 9] = [
     (IN_ORDER, &["plan", "fly"], "plan and fly"),
     (KEEP, &["plan"], "plan"),
     (WORTH, &["chart"], "chart"),
     (REST, &["run"], "run"),
+    (SETUP, &["mission"], "mission"),
+    (FORECAST, &["mission"], "mission"),
+    (PLAN, &["mission"], "mission"),
+    (TIMELINE, &["mission"], "mission"),
     (
         OUTPUT,
-        &["plan", "chart", "table", "rest", "sensitivity"],
-        "plan, chart, table, rest and sensitivity",
+        &["plan", "chart", "table", "rest", "sensitivity", "mission"],
+        "plan, chart, table, rest, sensitivity and mission",
     ),
 ];
 
@@ -172,7 +182,7 @@ fn nearest(word: &str) -> Option<FlagFault<'_>> {
         } else {
             distance(name.as_bytes(), near.as_bytes())
         };
-        if distance < least {
+        if distance < least && distance <= near.len().saturating_sub(2) / 2 {
             least = distance;
             fault = Some(FlagFault::Unknown { word, near, place });
         }

@@ -6,19 +6,19 @@ use Rattle.mm_commands.specs.declared.status.Status.{Status}
 use Rattle.mm_commands.specs.declared.status.Status.TheVariants.{Done, Refused, BadCommandLine}
 use Rattle.mm_files.specs.Contents.{Contents, FilesView}
 use Rattle.mm_commands.specs.declared.texts.TaskTexts.{TaskTexts}
-use Rattle.mm_commands.specs.Answers.{AnswersTask, Gives, Prints}
-use Rattle.mm_commands.specs.Refusing.{Refuses}
+use Rattle.mm_commands.specs.Answers.{AnswersTask, Gives}
+use Rattle.mm_commands.specs.Refusing.{Completes, Refuses}
 use Rattle.mm_commands.specs.Streams.{ReadsTwice, file_of, reads_twice}
 use Rattle.mm_commands.specs.Doing.{AreDone, Does, DoesTask, IsDone}
 use Rattle.mm_command_line.specs.Lines.{Spells, is_version_line, output_of}
 use Rattle.mm_command_line.specs.declared.task.Task.{Task}
 use Rattle.mm_command_line.specs.declared.task.Task.TheVariants.{Plan, Keep, Check, Chart, Table, Rest, Sensitivity, Fly}
-use Rattle.mm_command_line.specs.declared.task.Task.TheVariants.{Ask, Read}
+use Rattle.mm_command_line.specs.declared.task.Task.TheVariants.{Ask, Read, Mission}
 
 -- a task that the words ask for was done or refused
 pub task-does : {E : Type 0} (old new : FilesView) (words : List (List ℕ)) (task : Task)
     (before after : Option (List ℕ)) (r : Result Status E) → Spells words task
-    → reads_twice old.streams task ≡ false → IfOk r (λ status. Prints old new task status before after
+    → reads_twice old.streams task ≡ false → IfOk r (λ status. Completes old new task status before after
     ⊎ Refuses old new task status before after) → IfOk r (λ status. Does old new words status before after)
 task-does old new words task before after (Ok status) asked once told = inl
     (record { task = task; asked = asked; once = once; told = told })
@@ -96,16 +96,25 @@ refused-kept streams old new (Sensitivity setup forecast output) texts status te
 refused-kept streams old new (Fly names) texts status text before after other answers given = given.0
 refused-kept streams old new (Ask setup requests) texts status text before after other answers given = given.0
 refused-kept streams old new (Read packets) texts status text before after other answers given = given.0
+refused-kept streams old new (Mission mission part output) texts status text before after other answers given =
+    absurd answers
+
+-- a task that was settled, and not done, leaves the files as they were
+settled-kept : (old new : FilesView) (task : Task) (status : Status) (before after : Option (List ℕ))
+    → status ≢ Done → Completes old new task status before after ⊎ Refuses old new task status before after
+    → new.contents ≡ old.contents
+settled-kept old new task status before after other (inl (inl prints)) =
+    refused-kept old.streams old.contents new.contents task prints.texts status prints.text before after other
+    prints.answers prints.given
+settled-kept old new task status before after other (inl (inr planned)) = absurd (other planned.status_is)
+settled-kept old new task status before after other (inr refuses) = refuses.kept
 
 -- a task that is not done leaves the files as they were
 does-kept : (old new : FilesView) (words : List (List ℕ)) (status : Status) (before after : Option (List ℕ))
     → status ≢ Done → Does old new words status before after → new.contents ≡ old.contents
 does-kept old new words status before after other (inr rest) = ap (λ (view : FilesView). view.contents) rest.0
-does-kept old new words status before after other (inl task) = elim task.told [
-  | inl prints ↦ refused-kept old.streams old.contents new.contents task.task prints.texts status prints.text before
-      after other prints.answers prints.given
-  | inr refuses ↦ refuses.kept
-]
+does-kept old new words status before after other (inl task) =
+    settled-kept old new task.task status before after other task.told
 
 -- a run of the program that does not end with 0 leaves the files as they were
 pub code-kept : {E : Type 0} (old new : FilesView) (words : List (List ℕ)) (before after : Option (List ℕ))

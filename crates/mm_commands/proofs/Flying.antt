@@ -52,12 +52,12 @@ pub flown-settles : {E : Type 0} (old new : FilesView) (files : FlightFiles) (te
     (readings_of (names_in (Fly files)) texts)
     → IfOk result (λ status. PrintsFlown files.plan texts status before after)
     → IfOk result (λ status. Settles old new (Fly files) status before after)
-flown-settles old new files texts before after (Ok status) same read flown = inl (record {
+flown-settles old new files texts before after (Ok status) same read flown = inl (inl (record {
   texts = texts;
   read = read;
   text = flown.text;
   answers = flown.flown;
   given = (same, flown.printed);
   others = tt;
-})
+}))
 flown-settles old new files texts before after (Err e) same read flown = tt

@@ -5,3 +5,5 @@ mod Flying
 pub mod Leading
 mod Words
 mod Answering
+mod Beside
+mod Missions

@@ -8,11 +8,12 @@ use Rattle.std.specs.Io.KnownBytes.{Appends}
 use Rattle.mm_files.specs.Contents.{Contents, FilesView, MayBe, Notes, Reading, WereRead, reading}
 use Rattle.mm_commands.specs.Faults.{refused_line}
 use Rattle.mm_commands.specs.Reading.{IsUnread, StopsAt, name_of, reading_of}
+use Rattle.mm_commands.specs.Missions.{IsMissionFault}
 use Rattle.mm_commands.specs.Refusing.{IsFaultRead, Refuses, files_of}
 use Rattle.mm_commands.specs.declared.status.Status.{Status}
 use Rattle.mm_commands.specs.declared.status.Status.TheVariants.{Refused}
 use Rattle.mm_commands.specs.declared.fault.Fault.{Fault}
-use Rattle.mm_commands.specs.declared.fault.Fault.TheVariants.{NoMemory, NotRead, Texts, Run, Setup, NoStepAfter}
+use Rattle.mm_commands.specs.declared.fault.Fault.TheVariants.{NoMemory, NotRead, Texts, Run, Setup, NoStepAfter, Mission}
 use Rattle.mm_command_line.specs.declared.task.Task.{Task}
 
 -- what holds of the fault that is handed on holds of the one that is told
@@ -88,6 +89,7 @@ StopsAt-append contents left more (Texts e) stopped = absurd stopped
 StopsAt-append contents left more (Run e) stopped = absurd stopped
 StopsAt-append contents left more (Setup e) stopped = absurd stopped
 StopsAt-append contents left more (NoStepAfter word steps) stopped = absurd stopped
+StopsAt-append contents left more (Mission refusal) stopped = absurd stopped
 
 -- one of the first files was not read, and more come after them
 pub unread_before : (contents : Contents) (before after : Option (List Reading)) (names more : List (List ℕ))
@@ -134,7 +136,7 @@ module _ (contents now : Contents) (same : now ≡ contents) (before mid : Optio
 pub refuses : {E : Type 0} (P : Status → Type 0) (old new : FilesView) (task : Task) (fault : Fault)
     (before after : Option (List ℕ)) (result : Result Status E)
     → new.contents ≡ old.contents → IsUnread old.contents old.readings new.readings (files_of task) fault
-    ⊎ IsFaultRead old new task fault
+    ⊎ IsFaultRead old new task fault ⊎ IsMissionFault old new task fault
     → IfOk result (λ status. Appends before after (refused_line fault)) → IfOk result (λ status. status ≡ Refused)
     → IfOk result (λ status. P status ⊎ Refuses old new task status before after)
 refuses P old new task fault before after (Ok status) kept is line refused =

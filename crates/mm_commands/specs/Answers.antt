@@ -47,7 +47,7 @@ use Rattle.mm_command_line.specs.Names.{names_in}
 use Rattle.mm_command_line.specs.declared.task.FileNames.{FileNames}
 use Rattle.mm_command_line.specs.declared.task.Task.{Task}
 use Rattle.mm_command_line.specs.declared.task.Task.TheVariants.{Plan, Keep, Check, Chart, Table, Rest, Sensitivity, Fly}
-use Rattle.mm_command_line.specs.declared.task.Task.TheVariants.{Ask, Read}
+use Rattle.mm_command_line.specs.declared.task.Task.TheVariants.{Ask, Read, Mission}
 
 -- ---- `plan`
 
@@ -184,7 +184,7 @@ pub record PrintsFlown (plan : FlightPlan) (texts : TaskTexts) (status : Status)
 -- ---- all of them
 
 -- the task, whose files have these texts, is done, or the answer says what is not well: this text answers it, and the
--- run of the program ends in this status
+-- run of the program ends in this status. What answers a mission stands in Missions
 abbrev pub AnswersTask : Task → TaskTexts → Status → List ℕ → Type 0
 AnswersTask (Plan setup forecast in_order output) texts status text =
     (status ≡ Done) × PlansText in_order texts.setup.items texts.forecast.items text
@@ -200,8 +200,9 @@ AnswersTask (Rest kept output) texts status text =
 AnswersTask (Sensitivity setup forecast output) texts status text =
     (status ≡ Done) × IsWorthTable texts.setup.items texts.forecast.items text
 AnswersTask (Fly names) texts status text = Flown names.plan texts status text
-AnswersTask (Ask setup requests) texts status text = Replies status text texts.setup.items texts.packets.items
-AnswersTask (Read packets) texts status text = Says status text texts.packets.items
+AnswersTask (Ask setup requests) texts status text = Replies status text texts.setup.items texts.other.items
+AnswersTask (Read packets) texts status text = Says status text texts.other.items
+AnswersTask (Mission mission part output) texts status text = ⊥
 
 -- the text of an answer
 abbrev pub text_in : Answer → List ℕ
@@ -238,7 +239,7 @@ pub record AreOthers (names : FileNames) (name : List ℕ) : Type 0 where
   pub plan : IfSome names.plan (λ n. n.now ≢ name)
   pub sources : IfSome names.sources (λ n. n.now ≢ name)
   pub links : IfSome names.links (λ n. n.now ≢ name)
-  pub packets : IfSome names.packets (λ n. n.now ≢ name)
+  pub other : IfSome names.other (λ n. n.now ≢ name)
 
 -- the files and a writer had the first of these, and then the second: the task's files were read, what was stored or
 -- written between answers the task by the bytes that came, and no file that the task reads has the name of the file
@@ -250,6 +251,11 @@ pub record Prints (old new : FilesView) (task : Task) (status : Status) (before 
   pub answers : AnswersTask task texts status text
   pub given : Gives (file_of old.streams (output_of task)) text old.contents new.contents before after
   pub others : IfSome (file_of old.streams (output_of task)) (λ name. AreOthers (names_in task) name.now)
+
+-- the task plans a mission
+abbrev pub is_mission : Task → Bool
+is_mission (Mission mission part output) = true
+is_mission task = false
 
 -- the task carries a plan out
 abbrev pub is_run : Task → Bool

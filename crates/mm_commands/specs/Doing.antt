@@ -12,8 +12,7 @@ use Rattle.mm_commands.specs.declared.status.Status.TheVariants.{Done, Refused, 
 use Rattle.mm_command_line.specs.Lines.{IsTaskLine, Spells, is_version_line}
 use Rattle.mm_command_line.specs.declared.version.TheConstants.{VERSION}
 use Rattle.mm_command_line.specs.declared.task.Task.{Task}
-use Rattle.mm_commands.specs.Answers.{Prints}
-use Rattle.mm_commands.specs.Refusing.{Settles, refused_input}
+use Rattle.mm_commands.specs.Refusing.{Completes, Settles, refused_input}
 use Rattle.mm_commands.specs.Streams.{ReadsTwice, reads_twice}
 
 -- the words of a line, separated by single spaces; an empty line has none
@@ -58,7 +57,7 @@ Does old new words status before after = DoesTask old new words status before af
 pub record IsDone (old new : FilesView) (words : List (List ℕ)) (before after : Option (List ℕ)) : Type 0 where
   pub task : Task
   pub asked : Spells words task
-  pub prints : Prints old new task Done before after
+  pub prints : Completes old new task Done before after
 
 -- what the words ask for was done: their task, or the version was told
 abbrev pub AreDone : FilesView → FilesView → List (List ℕ) → Option (List ℕ) → Option (List ℕ) → Type 0

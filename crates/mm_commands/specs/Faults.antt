@@ -17,6 +17,7 @@ use Rattle.mm_files.specs.FileNames.{shown_name}
 use Rattle.mm_commands.specs.Spots.{spot_in_script}
 use Rattle.mm_commands.specs.declared.fault.Fault.{Fault}
 use Rattle.mm_commands.specs.declared.fault.Fault.TheVariants.{NoMemory, NotRead, Texts, Run, Setup, NoStepAfter}
+use Rattle.mm_commands.specs.declared.fault.Fault.TheVariants as fault
 
 -- which refusal a fault is
 abbrev pub refusal_of : Fault → Refusal
@@ -26,6 +27,7 @@ refusal_of (Texts fault) = check_refusal fault
 refusal_of (Run fault) = flight_refusal fault
 refusal_of (Setup fault) = problem_refusal fault
 refusal_of (NoStepAfter word steps) = refusal.Limit
+refusal_of (fault.Mission refusal) = refusal
 
 -- where in its file a fault of the texts of a run is
 abbrev pub spot_in_run : FlightFault → Spot
@@ -42,6 +44,7 @@ spot_of (Texts fault) = spot_in_texts fault
 spot_of (Run fault) = spot_in_run fault
 spot_of (Setup fault) = spot_in_problem fault
 spot_of (NoStepAfter word steps) = NumberAt Steps
+spot_of (fault.Mission refusal) = Whole
 
 -- the fields of a fault: the name of the file, or the place in it
 abbrev pub fields_of : Fault → List ℕ

@@ -4,6 +4,8 @@ pub mod Reading
 pub mod Statuses
 pub mod Streams
 pub mod Answers
+pub mod Missions
+pub mod Tables
 pub mod Spots
 pub mod Faults
 pub mod Refusing

@@ -15,7 +15,7 @@ name_of None = []
 -- the names of a task's files, in the order of its words
 abbrev pub listed : FileNames → List (List ℕ)
 listed names = (name_of names.setup ++ name_of names.forecast) ++ ((name_of names.plan ++ name_of names.sources)
-    ++ (name_of names.links ++ name_of names.packets))
+    ++ (name_of names.links ++ name_of names.other))
 
 -- the file was read where one is named, and had these bytes
 abbrev pub reading_of : Option (Bor (List ℕ)) → List ℕ → List Reading
@@ -26,7 +26,7 @@ reading_of None octets = []
 abbrev pub readings_of : FileNames → TaskTexts → List Reading
 readings_of names texts = (reading_of names.setup texts.setup.items ++ reading_of names.forecast texts.forecast.items)
     ++ ((reading_of names.plan texts.plan.items ++ reading_of names.sources texts.sources.items)
-    ++ (reading_of names.links texts.links.items ++ reading_of names.packets texts.packets.items))
+    ++ (reading_of names.links texts.links.items ++ reading_of names.other texts.other.items))
 
 -- the next of the files that are left was not read; out of memory may come at any time
 abbrev pub StopsAt : Contents → List (List ℕ) → Fault → Type 0

@@ -22,16 +22,18 @@ use Rattle.mm_files.specs.declared.files.ReadFault.TheVariants as read
 use Rattle.mm_commands.specs.declared.status.Status.{Status}
 use Rattle.mm_commands.specs.declared.status.Status.TheVariants.{Refused}
 use Rattle.mm_commands.specs.Answers.{Prints, given_plan}
+use Rattle.mm_commands.specs.Missions.{IsMissionFault, IsTextFault, PrintsMission}
 use Rattle.mm_commands.specs.Faults.{refused_line}
 use Rattle.mm_files.specs.FileNames.{shown_name}
 use Rattle.mm_commands.specs.declared.fault.Fault.{Fault}
 use Rattle.mm_commands.specs.declared.fault.Fault.TheVariants.{NoMemory, Texts, Run, Setup, NoStepAfter}
+use Rattle.mm_commands.specs.declared.fault.Fault.TheVariants as fault
 use Rattle.mm_commands.specs.declared.texts.TaskTexts.{TaskTexts}
 use Rattle.mm_command_line.specs.Names.{names_in}
 use Rattle.mm_command_line.specs.declared.task.Task.{Task}
 use Rattle.mm_command_line.specs.declared.task.KeptSteps.{KeptSteps}
 use Rattle.mm_command_line.specs.declared.task.Task.TheVariants.{Plan, Keep, Check, Chart, Table, Rest, Sensitivity, Fly}
-use Rattle.mm_command_line.specs.declared.task.Task.TheVariants.{Ask}
+use Rattle.mm_command_line.specs.declared.task.Task.TheVariants.{Ask, Mission}
 
 -- the names of a task's files
 abbrev pub files_of : Task → List (List ℕ)
@@ -77,6 +79,7 @@ IsFaultIn (Sensitivity setup forecast output) texts (Texts e) =
     e ≢ check.NoMemory → IsPlanningFault texts.setup.items texts.forecast.items e
 IsFaultIn (Fly names) texts (Run e) = e ≢ flight.NoMemory → IsFlightFault (given_plan names.plan texts) texts e
 IsFaultIn (Ask setup requests) texts (Setup e) = IsSetupFault texts.setup.items e
+IsFaultIn (Mission mission part output) texts (fault.Mission refusal) = IsTextFault texts.other.items refusal
 IsFaultIn task texts fault = ⊥
 
 -- the task's files were read, and this is the first fault of the bytes that came
@@ -89,14 +92,20 @@ pub record IsFaultRead (old new : FilesView) (task : Task) (fault : Fault) : Typ
 -- the files that were read, and the files are as they were
 pub record Refuses (old new : FilesView) (task : Task) (status : Status) (before after : Option (List ℕ)) : Type 0 where
   pub fault : Fault
-  pub is : IsUnread old.contents old.readings new.readings (files_of task) fault ⊎ IsFaultRead old new task fault
+  pub is : IsUnread old.contents old.readings new.readings (files_of task) fault
+      ⊎ IsFaultRead old new task fault ⊎ IsMissionFault old new task fault
   pub printed : Appends before after (refused_line fault)
   pub status_is : status ≡ Refused
   pub kept : new.contents ≡ old.contents
 
+-- the task was done, or a mission was planned
+abbrev pub Completes : FilesView → FilesView → Task → Status → Option (List ℕ) → Option (List ℕ) → Type 0
+Completes old new task status before after = Prints old new task status before after
+    ⊎ PrintsMission old new task status before after
+
 -- the task was done or refused
 abbrev pub Settles : FilesView → FilesView → Task → Status → Option (List ℕ) → Option (List ℕ) → Type 0
-Settles old new task status before after = Prints old new task status before after
+Settles old new task status before after = Completes old new task status before after
     ⊎ Refuses old new task status before after
 
 -- the line that says why the program's own input was not read

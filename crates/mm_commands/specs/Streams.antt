@@ -22,7 +22,7 @@ input_in None = 0
 abbrev pub inputs_in : FileNames → ℕ
 inputs_in names = input_in names.setup + input_in names.forecast + input_in names.plan + input_in names.sources
     + input_in names.links
-    + input_in names.packets
+    + input_in names.other
 
 -- the task has standard input for more than one of its files
 abbrev pub reads_twice : Bool → Task → Bool

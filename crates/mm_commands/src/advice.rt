@@ -38,12 +38,18 @@ pub(crate) fn tell_fault<E: Write>(
             let (refusal, spot) = (fault.refusal(), fault.spot());
             let file = match (task, found) {
                 (Some(task), Some(Found::InForecast(_))) => task.file(Role::Forecast),
+                (Some(Task::Mission { mission, .. }), _) if is_of_mission(fault) => Some(mission),
                 _ => file_of(task, refusal, spot),
             };
             tell_refusal(file, spot, refusal, err)?;
         }
     }
     tell_hint(found, err)
+}
+
+// Whether the fault is one of a mission.
+fn is_of_mission(fault: Fault<'_>) -> bool {
+    matches!(fault, Fault::Mission(_))
 }
 
 // Says that the word is no step of a forecast with so many steps after which another one comes.

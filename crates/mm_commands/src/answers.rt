@@ -13,7 +13,7 @@ ghost use Rattle.mm_plan.specs.Table.{HasShape};
 ghost use Rattle.mm_cut.specs.Checking.{SaysSheet};
 ghost use Rattle.mm_rest.specs.Rests.{IsKeptStep};
 ghost use Rattle.mm_commands.specs.Answers.{DrawsPlan, IsAnswerTo, Judges, KeepsSteps, PlansText, TellsRest, given_plan};
-ghost use Rattle.mm_commands.specs.Answers.{goal_of, is_run};
+ghost use Rattle.mm_commands.specs.Answers.{goal_of, is_mission, is_run};
 ghost use Rattle.mm_commands.specs.Given.{IsGiven};
 ghost use Rattle.mm_commands.specs.Answers.{status_in, status_of, status_of_replies};
 ghost use Rattle.mm_commands.specs.Refusing.{IsFaultIn, IsKeptFault};
@@ -35,7 +35,7 @@ use mm_rest::{kept_step, rest_script};
 use mm_sensitivity::{Progress, Worth, chart_worths, worths_with_progress};
 use std::alloc::Global;
 
-/// What answers a task other than a run.
+/// What answers a task other than a run and a mission.
 #[derive(Drop)]
 pub(crate) enum Answer<'a> {
     /// A text, which goes into the file of this name or is printed.
@@ -346,7 +346,7 @@ pub(crate) fn goal_of(plan: FlightPlan<'_>) -> Goal
     }
 }
 
-/// What answers a task other than a run, whose files have these texts.
+/// What answers a task other than a run and a mission, whose files have these texts.
 pub(crate) fn answer_without_run<'a, P: Progress>(
     alloc: Global,
     task: Task<'a>,
@@ -354,6 +354,7 @@ pub(crate) fn answer_without_run<'a, P: Progress>(
     progress: &mut P,
 ) -> Result<Answer<'a>, Fault<'a>>
     requires other { is_run task ≡ false }
+    requires told { is_mission task ≡ false }
     ensures answers { IfOk result (IsAnswerTo task.entry texts.now) }
     ensures refused { IfErr result (IsFaultIn task.entry texts.now) }
 {
@@ -383,13 +384,13 @@ pub(crate) fn answer_without_run<'a, P: Progress>(
             Ok(worth_table(alloc, texts, progress)?.answer(output))
         }
         Task::Ask { .. } => {
-            let replies = ask_bytes(alloc, &texts.setup, &texts.packets)?;
+            let replies = ask_bytes(alloc, &texts.setup, &texts.other)?;
             Ok(Answer::Lines(replies))
         }
         Task::Read { .. } => {
-            let replies = read_bytes(alloc, &texts.packets)?;
+            let replies = read_bytes(alloc, &texts.other)?;
             Ok(Answer::Lines(replies))
         }
-        Task::Fly(_) => unreachable!(),
+        Task::Fly(_) | Task::Mission { .. } => unreachable!(),
     }
 }

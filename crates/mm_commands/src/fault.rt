@@ -28,6 +28,8 @@ pub enum Fault<'a> {
     Setup(mm_problem::Fault),
     /// The word names no step of the forecast after which another one comes.
     NoStepAfter { word: &'a str, steps: u32 },
+    /// A fault of a mission: of its text, its tables or their rows.
+    Mission(Refusal),
 }
 
 impl From<mm_base::NoMemory> for Fault<'_> {
@@ -63,6 +65,7 @@ impl Refused for Fault<'_> {
             Fault::Run(fault) => fault.refusal(),
             Fault::Setup(fault) => fault.refusal(),
             Fault::NoStepAfter { .. } => Refusal::Limit,
+            Fault::Mission(refusal) => refusal,
         }
     }
 
@@ -91,6 +94,7 @@ impl Fault<'_> {
             Fault::Run(fault) => spot_in_run(fault),
             Fault::Setup(fault) => spot_in_problem(fault),
             Fault::NoStepAfter { .. } => Spot::Number(Name::Steps),
+            Fault::Mission(_) => Spot::Whole,
         }
     }
 

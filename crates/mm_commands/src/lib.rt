@@ -10,11 +10,13 @@ mod flight;
 mod given;
 mod halt;
 mod left;
+mod mission;
 mod remark;
 mod run;
 mod spot;
 mod status;
 mod streams;
+mod tables;
 mod tasks;
 mod texts;
 

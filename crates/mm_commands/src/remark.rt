@@ -294,7 +294,7 @@ pub(crate) fn tell_more<E: Write>(
 ) -> io::Result<()> {
     match answer {
         Answer::Text { notes, .. } => tell_notes(notes, err),
-        Answer::Lines(replies) => tell_replies(task, replies, &texts.packets, err),
+        Answer::Lines(replies) => tell_replies(task, replies, &texts.other, err),
         Answer::Line { verdict, notes, .. } => {
             tell_verdict(alloc, task, *verdict, notes, texts.hinted(), err)?;
             tell_losses(alloc, *verdict, texts, err)

@@ -26,6 +26,6 @@ pub(crate) fn reads_twice(streams: bool, task: Task<'_>) -> bool
         + input_in(names.plan)
         + input_in(names.sources)
         + input_in(names.links)
-        + input_in(names.packets);
+        + input_in(names.other);
     streams && inputs > 1
 }

@@ -3,7 +3,8 @@ ghost use Rattle.std.specs.Prelude.{◌≡◌, ◌≢◌, List, Option, false, I
 ghost use Rattle.std.specs.Io.KnownBytes.{Appends};
 ghost use Rattle.mm_commands.specs.declared.status.Status.TheVariants.{Refused, BadCommandLine};
 ghost use Rattle.mm_command_line.specs.Names.{names_in};
-ghost use Rattle.mm_commands.specs.Answers.{AreOthers, Gives, IsAnswerTo, is_run, output_in, status_in, text_in};
+ghost use Rattle.mm_commands.specs.Answers.{AreOthers, Gives, IsAnswerTo, is_mission, is_run, output_in, status_in};
+ghost use Rattle.mm_commands.specs.Answers.{text_in};
 ghost use Rattle.mm_files.specs.Contents.{Contents, IsStored, Reading, WereRead, seen};
 ghost use Rattle.mm_commands.specs.Faults.{refused_line};
 ghost use Rattle.mm_commands.specs.Reading.{readings_of};
@@ -14,6 +15,7 @@ use crate::advice::tell_fault;
 use crate::answers::{Answer, answer_without_run};
 use crate::fault::Fault;
 use crate::flight::do_run;
+use crate::mission::{AskedMission, do_mission};
 use crate::remark::{Found, tell_more};
 use crate::status::{Status, Unwritten};
 use crate::texts::TaskTexts;
@@ -80,7 +82,7 @@ fn is_among<F: Files>(files: &F, inputs: FileNames<'_>, name: &str) -> bool
         || is_that(files, inputs.plan, name)
         || is_that(files, inputs.sources, name)
         || is_that(files, inputs.links, name)
-        || is_that(files, inputs.packets, name)
+        || is_that(files, inputs.other, name)
 }
 
 // Says why a text was not stored in the file of this name.
@@ -98,8 +100,36 @@ fn tell_unstored<E: Write>(name: &str, fault: StoreFault, err: &mut E) -> io::Re
     )
 }
 
-// Stores the text in the file of this name, which must be none of the inputs; standard error has its name where that
-// fails.
+/// Stores the text in the file of this name, which must not be one that is read; standard error has its name where that
+/// fails.
+pub(crate) fn store_unless<F: Files, E: Write>(
+    alloc: Global,
+    files: &mut F,
+    is_read: bool,
+    name: &str,
+    text: &[u8],
+    err: &mut E,
+) -> Result<(), Unwritten>
+    ensures unless { IfOk result (λ _. is_read ≡ false) }
+    ensures stored { IfOk result (λ _. IsStored (F.content files.old) (F.content files.new) name.now text.now) }
+    ensures kept { IfErr result (λ _. F.content files.new ≡ F.content files.old) }
+    ensures unread { F.readings files.new ≡ F.readings files.old }
+{
+    let stored = if is_read {
+        Err(StoreFault::IsRead)
+    } else {
+        files.store(alloc, name, text)
+    };
+    match stored {
+        Ok(()) => Ok(()),
+        Err(fault) => {
+            tell_unstored(name, fault, err).map_err(|_| Unwritten::Messages)?;
+            Err(Unwritten::File)
+        }
+    }
+}
+
+// Stores the text in the file of this name, which must be none of the inputs.
 fn store<F: Files, E: Write>(
     alloc: Global,
     files: &mut F,
@@ -113,18 +143,8 @@ fn store<F: Files, E: Write>(
     ensures kept { IfErr result (λ _. F.content files.new ≡ F.content files.old) }
     ensures unread { F.readings files.new ≡ F.readings files.old }
 {
-    let stored = if is_among(files, inputs, name) {
-        Err(StoreFault::IsRead)
-    } else {
-        files.store(alloc, name, text)
-    };
-    match stored {
-        Ok(()) => Ok(()),
-        Err(fault) => {
-            tell_unstored(name, fault, err).map_err(|_| Unwritten::Messages)?;
-            Err(Unwritten::File)
-        }
-    }
+    let is_read = is_among(files, inputs, name);
+    store_unless(alloc, files, is_read, name, text, err)
 }
 
 // Prints the answer.
@@ -205,6 +225,32 @@ fn conclude<'a, F: Files, W: Write, E: Write>(
     }
 }
 
+// Does a task other than a run and a mission.
+fn do_answered<F: Files, W: Write, E: Write, P: Progress>(
+    alloc: Global,
+    task: Task<'_>,
+    files: &mut F,
+    out: &mut W,
+    err: &mut E,
+    progress: &mut P,
+) -> Result<Status, Unwritten>
+    requires other { is_run task ≡ false }
+    requires told { is_mission task ≡ false }
+    ensures prints { IfOk result (λ status. Settles (seen F.has_streams (F.content files.old) (F.readings files.old))
+        (seen F.has_streams (F.content files.new) (F.readings files.new))
+        task.entry status (W.contents out.old) (W.contents out.new)) }
+    ensures status { IfOk result (λ status. status ≢ BadCommandLine) }
+    ensures kept { IfErr result (λ _. F.content files.new ≡ F.content files.old) }
+{
+    match TaskTexts::read(alloc, files, task.names()) {
+        Ok(texts) => {
+            let answer = answer_without_run(alloc, task, &texts, progress);
+            conclude(alloc, task, answer, &texts, files, out, err)
+        }
+        Err(fault) => refuse(Some(task), fault, None, out, err),
+    }
+}
+
 /// Does a task other than a run, as `do_task` does, and waits for nothing.
 pub fn do_without_run<F: Files, W: Write, E: Write, P: Progress>(
     alloc: Global,
@@ -221,12 +267,20 @@ pub fn do_without_run<F: Files, W: Write, E: Write, P: Progress>(
     ensures status { IfOk result (λ status. status ≢ BadCommandLine) }
     ensures kept { IfErr result (λ _. F.content files.new ≡ F.content files.old) }
 {
-    match TaskTexts::read(alloc, files, task.names()) {
-        Ok(texts) => {
-            let answer = answer_without_run(alloc, task, &texts, progress);
-            conclude(alloc, task, answer, &texts, files, out, err)
+    match task {
+        Task::Mission {
+            mission,
+            part,
+            output,
+        } => {
+            let asked = AskedMission {
+                name: mission,
+                part,
+                output,
+            };
+            do_mission(alloc, asked, files, out, err)
         }
-        Err(fault) => refuse(Some(task), fault, None, out, err),
+        _ => do_answered(alloc, task, files, out, err, progress),
     }
 }
 

@@ -17,8 +17,8 @@ pub(crate) struct TaskTexts {
     pub(crate) plan: Vec<u8>,
     pub(crate) sources: Vec<u8>,
     pub(crate) links: Vec<u8>,
-    /// The requests or the packets.
-    pub(crate) packets: Vec<u8>,
+    /// The requests, the packets, or the mission.
+    pub(crate) other: Vec<u8>,
 }
 
 // The bytes of a file, where one is named.
@@ -44,8 +44,8 @@ fn read_named<'a, F: Files>(
     }
 }
 
-// The bytes of one file and then of another, where they are named.
-fn read_two<'a, F: Files>(
+/// The bytes of one file and then of another, where they are named.
+pub(crate) fn read_two<'a, F: Files>(
     alloc: Global,
     files: &mut F,
     first: Option<&'a str>,
@@ -77,14 +77,14 @@ impl TaskTexts {
     {
         let (setup, forecast) = read_two(alloc, files, names.setup, names.forecast)?;
         let (plan, sources) = read_two(alloc, files, names.plan, names.sources)?;
-        let (links, packets) = read_two(alloc, files, names.links, names.packets)?;
+        let (links, other) = read_two(alloc, files, names.links, names.other)?;
         Ok(TaskTexts {
             setup,
             forecast,
             plan,
             sources,
             links,
-            packets,
+            other,
         })
     }
 

@@ -36,6 +36,7 @@ mod inputs;
 mod keeping;
 mod kinds;
 mod memory;
+mod missions;
 mod planning;
 mod progressing;
 mod reading;

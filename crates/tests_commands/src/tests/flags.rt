@@ -4,7 +4,8 @@ use crate::tests::samples::{Host, answers, holds, joined, told};
 
 const TWICE: &str = "--output is given twice; give it once";
 
-const OF_OTHERS: &str = "--output goes with plan, chart, table, rest and sensitivity alone";
+const OF_OTHERS: &str =
+    "--output goes with plan, chart, table, rest, sensitivity and mission alone";
 
 const LATE: &str = "--output stands before --, after which each word is the name of a file";
 
@@ -13,18 +14,19 @@ const NAMELESS: &str =
         it";
 
 const SHORT: &str =
-    "there is no flag '-o'; did you mean --output, which goes with plan, chart, table, rest and sensitivity, and has \
-        the name of a file after it?";
+    "there is no flag '-o'; did you mean --output, which goes with plan, chart, table, rest, sensitivity and mission, \
+        and has the name of a file after it?";
 
 const NONE_ALIKE: &str =
     "there is no flag '--json', and none is spelled alike; there are --in-order of plan and fly, --keep PLAN STEP of \
-        plan, --worth of chart, --rest of run, --output FILE of plan, chart, table, rest and sensitivity, and --help";
+        plan, --worth of chart, --rest of run, --setup, --forecast, --plan and --timeline of mission, --output FILE of \
+        plan, chart, table, rest, sensitivity and mission, and --help";
 
 const KEEPS_NOTHING: &str =
     "a plan or a step is missing: write --keep PLAN STEP; if the name of the plan begins with -, write ./ before it";
 
 // Bad lines, and what is said of their flags.
-static WRONG: [(&str, &str); 49] = wanted! {
+static WRONG: [(&str, &str); 51] = wanted! {
     "plan --in-order --in-order S F" => "--in-order is given twice; give it once";
     "chart --worth S --worth F P" => "--worth is given twice; give it once";
     "run --rest S F P X L --rest" => "--rest is given twice; give it once";
@@ -38,6 +40,8 @@ static WRONG: [(&str, &str); 49] = wanted! {
     "plan S -- F --output=X" => LATE;
     "check --in-order S F P" => "--in-order goes with plan and fly alone";
     "plan S F --worth" => "--worth goes with chart alone";
+    "plan S F --timeline" => "--timeline goes with mission alone";
+    "mission --setup M --plan" => "--plan does not go with --setup; give one of them";
     "check S F P --output X" => OF_OTHERS;
     "read P --output=-" => OF_OTHERS;
     "plan --in-order=yes S F" => "--in-order takes no value; give it alone";
@@ -53,8 +57,8 @@ static WRONG: [(&str, &str); 49] = wanted! {
     "chart --worht S F P --output X"
     => "there is no flag '--worht'; did you mean --worth, which goes with chart?";
     "table S F P --outptu=X"
-    => "there is no flag '--outptu=X'; did you mean --output, which goes with plan, chart, table, rest and \
-        sensitivity, and has the name of a file after it?";
+    => "there is no flag '--outptu=X'; did you mean --output, which goes with plan, chart, table, rest, sensitivity \
+        and mission, and has the name of a file after it?";
     "check --hlep"
     => "there is no flag '--hlep'; did you mean --help, which stands alone or after a command?";
     "plan -in-order S F"
@@ -97,7 +101,7 @@ fn flags_that_are_not_read(rt: HostRuntime) {
 }
 
 // The usage of each command has each of its flags.
-static USAGES: [(&str, &str); 10] = wanted! {
+static USAGES: [(&str, &str); 11] = wanted! {
     "plan --help" => "plan [--in-order | --keep <PLAN> <STEP>] <SETUP> <FORECAST> [--output <FILE>]";
     "check --help" => "check <SETUP> <FORECAST> <PLAN>";
     "chart --help" => "chart [--worth] <SETUP> <FORECAST> <PLAN> [--output <FILE>]";
@@ -108,6 +112,7 @@ static USAGES: [(&str, &str); 10] = wanted! {
     "fly --help" => "fly [--in-order] <SETUP> <FORECAST> <SOURCES> <LINKS>";
     "ask S" => "ask <SETUP> <REQUESTS>";
     "read" => "read <PACKETS>";
+    "mission" => "mission [--setup | --forecast | --plan | --timeline] <MISSION> [--output <FILE>]";
 };
 
 // A bad line, or a call for help, of which standard error has this text.

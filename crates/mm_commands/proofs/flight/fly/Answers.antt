@@ -1,6 +1,6 @@
-use Rattle.std.proofs.Common.{inr}
+use Rattle.std.proofs.Common.{inl, inr}
 use Rattle.mm_command_line.specs.declared.task.Task.TheVariants.{Fly}
-use Rattle.mm_commands.specs.Answers.{Prints}
+use Rattle.mm_commands.specs.Refusing.{Completes}
 use Rattle.mm_commands.specs.declared.fault.Fault.TheVariants.{Run}
 use Rattle.mm_commands.proofs.Flying.{flown-settles}
 use Rattle.mm_commands.proofs.Refusals.{refuses}
@@ -15,7 +15,7 @@ pub returns-in-Err-clause-settles : goal.returns-in-Err-clause-settles
 returns-in-Err-clause-settles g c old new same read =
     let before = g.W.Write.contents c.args.out.now in
     let after = g.W.Write.contents c.refuse.new.out in
-    refuses (λ status. Prints old new (Fly c.args.flight) status before after) old new (Fly c.args.flight)
+    refuses (λ status. Completes old new (Fly c.args.flight) status before after) old new (Fly c.args.flight)
     (Run c.in-Err.fault) before after c.refuse.result same
-    (inr (record { texts = c.args.texts.now; read = read; is = c.in-Err.ensures.refused })) c.refuse.ensures.line
+    (inr (inl (record { texts = c.args.texts.now; read = read; is = c.in-Err.ensures.refused }))) c.refuse.ensures.line
     c.refuse.ensures.status

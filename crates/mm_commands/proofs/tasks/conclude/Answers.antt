@@ -1,7 +1,7 @@
-use Rattle.std.proofs.Common.{IfOk, IfErr, inr, subst}
-use Rattle.mm_commands.specs.Answers.{IsAnswerTo, Prints}
+use Rattle.std.proofs.Common.{IfOk, IfErr, inl, inr, subst}
+use Rattle.mm_commands.specs.Answers.{IsAnswerTo}
 use Rattle.mm_files.specs.Contents.{seen}
-use Rattle.mm_commands.specs.Refusing.{IsFaultIn, Refuses}
+use Rattle.mm_commands.specs.Refusing.{Completes, IsFaultIn, Refuses}
 use Rattle.mm_commands.proofs.Printing.{answer-prints}
 use Rattle.mm_commands.proofs.Refusals.{refuses}
 use Rattle.mm_commands.proofs.tasks.conclude.Goals as goal
@@ -25,6 +25,6 @@ returns-in-Err-clause-prints g c contents readings same read =
     let before = g.W.Write.contents c.args.out.now in
     let after = g.W.Write.contents c.refuse.new.out in
     let is = subst (λ answer. IfErr answer (IsFaultIn c.args.task c.args.texts.now)) c.in-Err.is c.requires.refused in
-    refuses (λ status. Prints start now c.args.task status before after) start now c.args.task c.in-Err.fault before
+    refuses (λ status. Completes start now c.args.task status before after) start now c.args.task c.in-Err.fault before
     after c.refuse.result same
-    (inr (record { texts = c.args.texts.now; read = read; is = is })) c.refuse.ensures.line c.refuse.ensures.status
+    (inr (inl (record { texts = c.args.texts.now; read = read; is = is }))) c.refuse.ensures.line c.refuse.ensures.status

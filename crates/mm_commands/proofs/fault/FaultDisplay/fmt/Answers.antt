@@ -7,7 +7,7 @@ use Rattle.mm_told.specs.Spots.{fields_text}
 use Rattle.mm_files.specs.declared.files.Obstacle.{Obstacle}
 use Rattle.mm_commands.specs.Faults.{fields_of, refusal_of, spot_of}
 use Rattle.mm_commands.specs.declared.fault.Fault.{Fault}
-use Rattle.mm_commands.specs.declared.fault.Fault.TheVariants.{NoMemory, NotRead, Texts, Run, Setup, NoStepAfter}
+use Rattle.mm_commands.specs.declared.fault.Fault.TheVariants.{NoMemory, NotRead, Texts, Run, Setup, NoStepAfter, Mission}
 use Rattle.mm_commands.proofs.fault.FaultDisplay.fmt.Goals as goal
 
 -- a fault that names no file has the fields of its place
@@ -20,6 +20,7 @@ fields_of-place (Texts e) other = refl
 fields_of-place (Run e) other = refl
 fields_of-place (Setup e) other = refl
 fields_of-place (NoStepAfter word steps) other = refl
+fields_of-place (Mission refusal) other = refl
 
 pub returns-in_default : goal.returns-in_default
 returns-in_default g c =

@@ -1,7 +1,7 @@
 use Rattle.std.proofs.Common.{subst}
 use Rattle.mm_files.specs.Contents.{WereRead}
 use Rattle.mm_commands.specs.Reading.{readings_of}
-use Rattle.mm_commands.proofs.tasks.do_without_run.Goals as goal
+use Rattle.mm_commands.proofs.tasks.do_answered.Goals as goal
 
 pub returns-in-Ok-clause-prints : goal.returns-in-Ok-clause-prints
 returns-in-Ok-clause-prints g c =
