@@ -1,3 +1,4 @@
+pub mod Flown
 pub mod Words
 pub mod Values
 pub mod Small

@@ -1,5 +1,5 @@
 //! The plan of a mission, whose text and tables stand in one text.
-ghost use Rattle.std.specs.Prelude.{◌≡◌, option_map, IfOk, IfErr, OnOk};
+ghost use Rattle.std.specs.Prelude.{◌≡◌, option_map, IfOk};
 ghost use Rattle.mm_base.specs.Reading.{IfRefused};
 ghost use Rattle.mm_mission_plan.specs.Rows.{texts_of as given_by};
 ghost use Rattle.mm_mission_plan.specs.declared.fault.Fault.TheVariants as fault;
