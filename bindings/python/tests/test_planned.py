@@ -7,13 +7,15 @@ import random
 import sys
 import tempfile
 import unittest
+import warnings
 from collections import Counter
 from pathlib import Path
 
 import drawn
+from made_missions import made_mission
 from mission_rules import Rules, said_by
 from player import play, printed_losses
-from rudlayog import Forecast, Refusal, Setup, check
+from rudlayog import Refusal, check
 from rudlayog.mission import Mission
 from rudlayog.planned import plan_mission, plan_mission_text
 
@@ -76,38 +78,55 @@ class OnPaper(unittest.TestCase):
 
 
 class Drawn(unittest.TestCase):
-    def test_drawn_missions(self):
-        counts = Counter()
+    counts = Counter()
+
+    def test_missions_of_whole_minutes(self):
+        """All are planned."""
+        for number in range(PLANNED):
+            mission = made_mission(random.Random(f"{SEED} {number}").randrange(10**9), even=5, apart=True)
+            with self.subTest(number=number, seed=SEED):
+                self.planned(mission)
+        told = ", ".join(f"{count} {what}" for what, count in self.counts.items())
+        sys.stderr.write(f"test_planned: {told}; no packet early, no dump outside of its pass or ahead of a rate\n")
+
+    def test_missions_of_microseconds(self):
+        """Those are refused whose numbers have no common time in range, and no others."""
         for number in range(PLANNED):
             mission = apart(drawn.drawn_mission(drawn.seed_of(SEED, number)))
             with self.subTest(number=number, seed=SEED):
-                made = plan_mission_text(mission.to_toml())
-                self.by_the_rules(Rules(mission.to_toml()), made)
-                own = mission.plan()
-                self.flown(mission, made, own, counts)
-        told = ", ".join(f"{count} {what}" for what, count in counts.items())
-        sys.stderr.write(f"test_planned: {told}\n")
+                try:
+                    self.planned(mission)
+                except Refusal as refusal:
+                    self.assertEqual(refusal.name, "MissionRow")
+                    self.assertIn("out of range", refusal.found)
+                    self.counts["refused"] += 1
 
-    def by_the_rules(self, rules, made):
-        """Setup and forecast say what the rules say, in the least unit."""
+    def planned(self, mission):
+        """Setup and forecast say what the rules say, in the least unit; the plan loses least, and as little as the
+        package's in the same unit; and the timeline is flown."""
+        made, rules = plan_mission_text(mission.to_toml()), Rules(mission.to_toml())
         self.assertEqual(said_by(made.setup, made.forecast), rules.in_units(made.unit))
         self.assertTrue(made.unit == 1 or not rules.is_in_range(made.unit - 1), made.unit)
-
-    def flown(self, mission, made, own, counts):
-        """The texts are one plan that loses least; and the timeline is flown, no packet early, none above a rate."""
+        verdict = check(made.setup.encode(), made.forecast.encode(), made.plan)
+        self.assertTrue(verdict, verdict)
+        with warnings.catch_warnings():
+            warnings.simplefilter("ignore")
+            own = mission.plan()
         if made.unit == own.problem.unit.count:
             self.assertEqual(made.loss, own.plan.loss)
-            self.assertEqual(printed_losses(made.sheet), printed_losses(own.passes().text()))
-            counts["missions that the package plans in the same unit"] += 1
-        verdict = check(Setup(made.setup), Forecast(made.forecast), made.plan)
-        self.assertTrue(verdict, verdict)
-        seen = play(mission, made.timeline, own.problem.unit.link)
+            self.counts["missions that the package plans in the same unit"] += 1
+        self.flown(mission, made, rules)
+
+    def flown(self, mission, made, rules):
+        """No packet is early, and nothing is above a rate; no store loses more than is printed, but for a unit."""
+        octets = max(store.unit * store.packet for store in rules.stores)
+        seen = play(mission, made.timeline, octets)
         self.assertEqual(seen.faults(), dict.fromkeys(seen.faults(), 0))
         printed = printed_losses(made.sheet)
-        for store in mission.stores:
-            more = seen.lost[store.id] - printed.get(store.id, 0)
-            self.assertLessEqual(more, own.problem.unit.packets[store.id], store.id)
-        counts.update({"missions": 1, "packets sent": sum(seen.sent.values()), "packets lost": sum(seen.lost.values())})
+        for store in rules.stores:
+            self.assertLessEqual(seen.lost[store.id] - printed.get(store.id, 0), store.unit, store.id)
+        sent, lost = sum(seen.sent.values()), sum(seen.lost.values())
+        self.counts.update({"missions": 1, "packets sent": sent, "packets lost": lost})
 
 
 if __name__ == "__main__":
