@@ -165,6 +165,7 @@ pub extern "C" fn rudlayog_mission_plan(
 fn words_in(alloc: Global, files: &[u8]) -> Result<Vec<u8>, NoMemory> {
     match plan_files(alloc, files) {
         Ok(_) => Ok(Vec::new(alloc)),
+        Err(Fault::NoMemory) => Err(NoMemory),
         Err(fault) => {
             let words = format!(in alloc; "{fault}")?;
             Ok(words.into_bytes())

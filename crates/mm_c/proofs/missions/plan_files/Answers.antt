@@ -1,4 +1,4 @@
-use Rattle.std.proofs.Common.{◌≡◌, ap, sym, ◌∙◌}
+use Rattle.std.proofs.Common.{ap, sym, ◌∙◌}
 use Rattle.mm_mission_plan.specs.Rows.{texts_of as given_by}
 use Rattle.mm_c.specs.Missions.{tables_of}
 use Rattle.mm_c.proofs.Flown.{files_fault}
