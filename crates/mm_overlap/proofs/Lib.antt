@@ -1,2 +1,4 @@
 pub mod Passes
 pub mod Edged
+pub mod Multiples
+pub mod BetterLemmas

@@ -76,6 +76,10 @@ fn a_mission_is_refused_with_its_first_fault(rt: HostRuntime) {
     let stations = "name,rate\nNew Norcia,64 kbit/s\n";
     let unknown = script("mission plans/day.toml\n", stations, PASSES);
     answers(&rt, &unknown, "refused 58 MissionRow\n", NO_STATION, 1);
-    let unrated = script("mission plans/day.toml\n", "name,rate\nMalargue,64 kbit\n", PASSES);
+    let unrated = script(
+        "mission plans/day.toml\n",
+        "name,rate\nMalargue,64 kbit\n",
+        PASSES,
+    );
     answers(&rt, &unrated, "refused 56 MissionText\n", NO_RATE, 1);
 }
