@@ -31,7 +31,7 @@
  * texts and packets stand below, at `enum rudlayog_refusal`. Out of memory, `RUDLAYOG_REFUSAL_NO_MEMORY`, may come in
  * place of any other answer of a call that lists it.
  *
- * Whatever it answers, a call writes its `answer` whole, and each value beside it (`losses`, `planned`, `verdict`,
+ * Whatever it answers, a call writes its `answer` whole, and each value beside it (`losses`, `verdict`,
  * `outcome`, `fate`, `tally`, `time`, `state`, `store`, `reports`, `packets`, `report`), which is all 0 but where the
  * call says another. It writes into its buffer only where it tells `RUDLAYOG_WRITTEN`, and then only the
  * `answer.length` octets of the text, or the first `answer.length` entries. A call on a handle that tells another
@@ -121,7 +121,6 @@ enum {
     RUDLAYOG_WORDS_STACK = 8192,
     RUDLAYOG_HINT_STACK = 2621440,
     RUDLAYOG_VERSION_STACK = 4096,
-    RUDLAYOG_MISSION_STACK = 2621440, /* for rudlayog_mission_plan and rudlayog_mission_words */
     RUDLAYOG_FIELDS_STACK = 8192,     /* for rudlayog_request_write and rudlayog_report_read */
     RUDLAYOG_OPEN_STACK = 2621440,    /* for rudlayog_memory_open */
     RUDLAYOG_MEMORY_STACK = 12288,    /* for each other call on a memory */
@@ -239,19 +238,6 @@ enum { RUDLAYOG_STORES = 16 };
 /* What each store of a setup loses in a plan, in blocks: its stores in their order, and 0 at the places after them. */
 struct rudlayog_losses {
     uint64_t by_store[RUDLAYOG_STORES];
-};
-
-/* What is told of a mission that is planned: `unit` is how many of the longest packets count as one in its setup,
- * forecast and plan; the plan loses `loss` units, and no plan loses fewer. The others are how many octets each of its
- * texts has. */
-struct rudlayog_planned {
-    uint64_t unit;
-    uint64_t loss;
-    uint64_t setup;
-    uint64_t forecast;
-    uint64_t plan;
-    uint64_t sheet;
-    uint64_t timeline;
 };
 
 /* The kinds of a verdict. rudlayog_is_least says which of them are a plan that loses least. */
@@ -469,8 +455,6 @@ RUDLAYOG_SAME(offsetof(struct rudlayog_state, retrieval) == 16 && offsetof(struc
 RUDLAYOG_SAME(sizeof(struct rudlayog_store) == 104);
 RUDLAYOG_SAME(offsetof(struct rudlayog_store, id_length) == 8 && offsetof(struct rudlayog_store, channel) == 12 &&
               offsetof(struct rudlayog_store, state) == 16);
-RUDLAYOG_SAME(sizeof(struct rudlayog_planned) == 56);
-RUDLAYOG_SAME(offsetof(struct rudlayog_planned, setup) == 16 && offsetof(struct rudlayog_planned, timeline) == 48);
 RUDLAYOG_SAME(sizeof(struct rudlayog_tally) == 12);
 RUDLAYOG_SAME(offsetof(struct rudlayog_tally, kept) == 0 && offsetof(struct rudlayog_tally, lost) == 4 &&
               offsetof(struct rudlayog_tally, refused) == 8);
@@ -559,28 +543,6 @@ void rudlayog_ask(const uint8_t *setup, size_t setup_length, const uint8_t *requ
  * `RUDLAYOG_NO_OUTCOME`. */
 void rudlayog_read(const uint8_t *packets, size_t packets_length, uint8_t *out, size_t room, uint32_t *outcome,
                    struct rudlayog_answer *answer);
-
-/* Plans a mission in UTC. Its text, in TOML, stands in `files` before the first line `=== NAME`; after each such line
- * stands, up to the next one, the table in CSV that the mission names so. The text that is told is five texts, one
- * after the other, and `planned` says how long each is: the setup and the forecast of the mission's steps; a plan text
- * for them that loses least; the sheet, what each pass does to each store; and the timeline, when what is sent is sent.
- * Sheet and timeline are in UTC and in packets. docs/FORMATS.md, 'Mission', has all of them. Stack:
- * `RUDLAYOG_MISSION_STACK`.
- *
- * `RUDLAYOG_WRITTEN`, `RUDLAYOG_TOO_SMALL`: `planned` says what the texts have. `RUDLAYOG_REFUSED`, in this order, and
- * without a place: `RUDLAYOG_REFUSAL_MISSION_TEXT`, the mission is not readable; then, of its stores, stations, passes
- * and observations, the first table that is not there, `RUDLAYOG_REFUSAL_MISSION_TABLE`, or not readable,
- * `RUDLAYOG_REFUSAL_MISSION_TEXT`; then `RUDLAYOG_REFUSAL_MISSION_ROW`, the first row that is not what it should be, or
- * too many steps. Or out of memory. `planned` is then all 0; rudlayog_mission_words says more. */
-void rudlayog_mission_plan(const uint8_t *files, size_t files_length, uint8_t *out, size_t room,
-                           struct rudlayog_planned *planned, struct rudlayog_answer *answer);
-
-/* Where the fault of a mission is for which rudlayog_mission_plan is refused, and what was found, in one line without
- * its end. The text is empty where the mission is planned. Stack: `RUDLAYOG_MISSION_STACK`.
- *
- * `RUDLAYOG_WRITTEN`, `RUDLAYOG_TOO_SMALL`, `RUDLAYOG_REFUSED` out of memory. */
-void rudlayog_mission_words(const uint8_t *files, size_t files_length, uint8_t *out, size_t room,
-                            struct rudlayog_answer *answer);
 
 /* The words of a refusal for people, in one line without its end, as `28 SetupField row 1 name size: expected ..; ..`.
  * The text is empty where no refusal has these codes. It takes no memory. Stack: `RUDLAYOG_WORDS_STACK`.

@@ -1,4 +1,3 @@
-pub mod Flown
 pub mod Words
 pub mod Values
 pub mod Small

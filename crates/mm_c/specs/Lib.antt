@@ -5,5 +5,4 @@ pub mod Serving
 pub mod Showing
 pub mod Fields
 pub mod Losses
-pub mod Missions
 pub mod Laws
