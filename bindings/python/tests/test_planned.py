@@ -1,26 +1,28 @@
-"""Missions planned by the library, beside the package's own rules, which share nothing with it; and their timelines
-flown by a player that knows neither. Prints the seed and what was counted; SEED and PLANNED set the seed and how many
-missions there are."""
+"""Missions planned by the program, beside the package's own rules and those of mission_rules, which share nothing with
+it; and their timelines flown by a player that knows neither. Prints the seed and what was counted; SEED and PLANNED set
+the seed and how many missions there are."""
 
 import os
 import random
+import subprocess
 import sys
 import tempfile
 import unittest
 import warnings
 from collections import Counter
+from dataclasses import dataclass
 from pathlib import Path
 
 import drawn
 from made_missions import made_mission
 from mission_rules import Rules, said_by
 from player import play, printed_losses
-from rudlayog import Refusal, check
+from rudlayog import check
 from rudlayog.mission import Mission
-from rudlayog.planned import plan_mission, plan_mission_text
 
 SEED = os.environ.get("SEED") or str(random.SystemRandom().randrange(10**6))
-PLANNED = int(os.environ.get("PLANNED", "300"))
+PLANNED = int(os.environ.get("PLANNED", "60"))
+PROGRAM = Path(__file__).resolve().parents[3] / "crates" / "mm_tool" / "out" / "mm_tool"
 sys.stderr.write(f"test_planned: SEED={SEED} PLANNED={PLANNED}\n")
 
 # 64 kbit/s are 8 packets of 1,000 octets a second, 28,800 in the hour; the store has room for 16,000,000 / 1,024 =
@@ -30,6 +32,46 @@ PASS = "Malargue,2031-03-03T06:00:00Z,2031-03-03T07:00:00Z,64 kbit/s\n"
 SEEN = (
     '[[observation]]\nstore = "CAM"\nbegin = 2031-03-03T00:00:00Z\nend = 2031-03-03T06:00:00Z\nvolume = "20 MB"\n'
 )
+
+
+class Refused(Exception):
+    """What the program prints of a mission that it refuses: the line, and what it says more."""
+
+
+@dataclass(frozen=True)
+class Made:
+    """The texts that the program prints of a mission, and what its plan loses, in units."""
+
+    setup: str
+    forecast: str
+    plan: str
+    sheet: str
+    timeline: str
+
+    @property
+    def loss(self):
+        return int(next(line[5:] for line in self.plan.splitlines() if line.startswith("loss ")))
+
+
+def printed(path, *flags):
+    """What the program prints of the mission of a file."""
+    ended = subprocess.run([PROGRAM, "mission", *flags, path], capture_output=True, text=True, check=False)
+    if ended.returncode:
+        raise Refused(ended.stdout + ended.stderr)
+    return ended.stdout
+
+
+def plan_mission(path):
+    parts = ("--setup", "--forecast", "--plan")
+    return Made(*(printed(path, flag) for flag in parts), printed(path), printed(path, "--timeline"))
+
+
+def plan_mission_text(text, tables=None):
+    """Plans a mission of this text, with its tables beside it."""
+    with tempfile.TemporaryDirectory() as room:
+        for name, table in {"mission.toml": text, **(tables or {})}.items():
+            (Path(room) / name).write_text(table)
+        return plan_mission(Path(room) / "mission.toml")
 
 
 def apart(mission):
@@ -50,33 +92,28 @@ def apart(mission):
     )
 
 
+@unittest.skipUnless(PROGRAM.exists(), "the program is not built")
 class OnPaper(unittest.TestCase):
     def test_a_table_beside_the_mission(self):
-        text = f'passes = "passes.csv"\n{WHOLE}{SEEN}'
-        made = plan_mission_text(text, {"passes.csv": "station,begin,end,rate\n" + PASS})
-        self.assertEqual((made.loss, made.unit), (4375, 1))
+        made = plan_mission_text(
+            f'passes = "passes.csv"\n{WHOLE}{SEEN}', {"passes.csv": "station,begin,end,rate\n" + PASS}
+        )
+        self.assertEqual(made.loss, 4375)
         self.assertEqual(made.forecast, "step,window,CAM\n1,0,20000\n2,28800,0\n")
-        with tempfile.TemporaryDirectory() as room:
-            (Path(room) / "mission.toml").write_text(text)
-            (Path(room) / "passes.csv").write_text("station,begin,end,rate\n" + PASS)
-            self.assertEqual(plan_mission(Path(room) / "mission.toml"), made)
-            (Path(room) / "passes.csv").unlink()
-            self.assertRaises(FileNotFoundError, plan_mission, Path(room) / "mission.toml")
 
     def test_refusals(self):
         for name, text in (
-            ("MissionText", "packet ="),
-            ("MissionText", 'packet = "x"\n'),
-            ("MissionTable", f'passes = "passes.csv"\n{WHOLE}'),
-            ("MissionRow", f'{WHOLE}{SEEN.replace("CAM", "HK")}'),
+            ("56 MissionText", "packet ="),
+            ("56 MissionText", 'packet = "x"\n'),
+            ("50 NotRead", f'passes = "passes.csv"\n{WHOLE}'),
+            ("58 MissionRow", f'{WHOLE}{SEEN.replace("CAM", "HK")}'),
         ):
-            with self.assertRaises(Refusal) as raised:
+            with self.assertRaises(Refused) as raised:
                 plan_mission_text(text)
-            self.assertEqual(raised.exception.name, name)
-            self.assertTrue(raised.exception.found, text)
-        self.assertRaises(ValueError, plan_mission_text, "=== x\n")
+            self.assertIn(f"refused {name}", str(raised.exception))
 
 
+@unittest.skipUnless(PROGRAM.exists(), "the program is not built")
 class Drawn(unittest.TestCase):
     counts = Counter()
 
@@ -96,23 +133,23 @@ class Drawn(unittest.TestCase):
             with self.subTest(number=number, seed=SEED):
                 try:
                     self.planned(mission)
-                except Refusal as refusal:
-                    self.assertEqual(refusal.name, "MissionRow")
-                    self.assertIn("out of range", refusal.found)
+                except Refused as refused:
+                    self.assertIn("refused 58 MissionRow", str(refused))
+                    self.assertIn("out of range", str(refused))
                     self.counts["refused"] += 1
 
     def planned(self, mission):
-        """Setup and forecast say what the rules say, in the least unit; the plan loses least, and as little as the
-        package's in the same unit; and the timeline is flown."""
+        """Setup and forecast say what the rules say, in the least unit in range; the plan loses least, and as little as
+        the package's in the same unit; and the timeline is flown."""
         made, rules = plan_mission_text(mission.to_toml()), Rules(mission.to_toml())
-        self.assertEqual(said_by(made.setup, made.forecast), rules.in_units(made.unit))
-        self.assertTrue(made.unit == 1 or not rules.is_in_range(made.unit - 1), made.unit)
+        unit = next(unit for unit in range(1, 2**20) if rules.is_in_range(unit))
+        self.assertEqual(said_by(made.setup, made.forecast), rules.in_units(unit))
         verdict = check(made.setup.encode(), made.forecast.encode(), made.plan)
         self.assertTrue(verdict, verdict)
         with warnings.catch_warnings():
             warnings.simplefilter("ignore")
             own = mission.plan()
-        if made.unit == own.problem.unit.count:
+        if unit == own.problem.unit.count:
             self.assertEqual(made.loss, own.plan.loss)
             self.counts["missions that the package plans in the same unit"] += 1
         self.flown(mission, made, rules)
