@@ -1,8 +1,17 @@
 use Rattle.std.proofs.Common.{◌∙◌}
 use Rattle.mm_files.specs.Contents.{seen}
-use Rattle.mm_commands.proofs.Missions.{unread_settles}
+use Rattle.mm_commands.proofs.Missions.{unnamed_settles, unread_settles}
 use Rattle.mm_commands.proofs.Refusals.{read_after}
 use Rattle.mm_commands.proofs.mission.plan_said.Goals as goal
+
+pub returns-in_default-clause-prints : goal.returns-in_default-clause-prints
+returns-in_default-clause-prints g c contents readings text says same read =
+    let streams = g.F.Files.has_streams in
+    let asked = c.args.asked in
+    let old = seen streams contents readings in
+    let now = seen streams (g.F.Files.content c.args.files.now) (g.F.Files.readings c.args.files.now) in
+    unnamed_settles old now asked.name asked.part asked.output text c.args.said says _ _ c.refuse.result same read
+    c.refuse.ensures.line c.refuse.ensures.status
 
 pub returns-in-Ok-read-clause-prints : goal.returns-in-Ok-read-clause-prints
 returns-in-Ok-read-clause-prints g c contents readings text says same read =
