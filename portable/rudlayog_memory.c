@@ -1,7 +1,7 @@
 /* Rudlayog: the memory with its storage service in C. dist/portable made this file of the proved library; do not change it by hand.
  * portable/README.md says how to compile it, and docs/TRUST.md what stands unproved between the proof and it.
  *
- * Sources: b8c64c6d0ecbeb9e15d01da91827dd9f37ccc9a19b844f9e32bb0e7bed0273b1
+ * Sources: 9b31e49542a1d8a56175a88084cdcfca8cf516dc7ba2dc183a3004303275c666
  * Toolchain: rattle-kit-13f logic dac8208d650f15bf
  *
  * SPDX-License-Identifier: MIT OR Apache-2.0
