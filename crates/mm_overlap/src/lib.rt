@@ -2,9 +2,9 @@
 #![tactic(auto)]
 
 mod given;
-#[cfg(test)]
-mod tests;
+mod planned;
 mod times;
 
 pub use given::both;
+pub use planned::{problems, together};
 pub use times::edges;
