@@ -3,6 +3,8 @@
 
 mod given;
 mod planned;
+#[cfg(test)]
+mod tests;
 mod times;
 
 pub use given::both;
