@@ -1,2 +1,5 @@
 pub mod Passes
 pub mod Edged
+pub mod Parts
+pub mod Kept
+pub mod SharedOut

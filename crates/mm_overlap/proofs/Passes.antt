@@ -1,6 +1,6 @@
 -- The passes of a transmitter.
 use Rattle.std.proofs.Common.{◌≡◌, ℕ, zero, suc, ◌+◌, ◌-◌, ◌<◌, ◌≤◌, Bool, true, cond, List, [], ◌∷◌, ◌++◌, length, get_or}
-use Rattle.std.proofs.Common.{false, refl, sym, ap, ◌∙◌, inl, inr, arith, length-append, eqb}
+use Rattle.std.proofs.Common.{false, refl, sym, ap, ◌∙◌, inl, inr, arith, length-append, eqb, add-one}
 use Rattle.std.specs.Prelude.{All, AllPairs, IsTrue, Ok, filter, map, nat_le, ◌==◌}
 use Rattle.std.specs.List.{range_with_len}
 use Rattle.std.proofs.lemmas.Bool.{cases_Bool, cases_lt}
@@ -11,20 +11,13 @@ use Rattle.std.proofs.lemmas.List.Kept.{AllPairs-cons}
 use Rattle.std.proofs.lemmas.List.FromFn.{length-range_with_len}
 use Rattle.mm_mission.specs.declared.parts.Pass.{Pass}
 use Rattle.mm_base.specs.Reading.{test}
+use Rattle.mm_base.proofs.Ranges.{range_with_len_more}
 use Rattle.mm_base.proofs.ReadingSteps.{bind_ok, test_ok}
 use Rattle.mm_mission.specs.declared.fault.Fault.TheVariants.{TooMany, BadPass}
 use Rattle.mm_mission.specs.declared.limits.TheConstants.{MAX_PASSES}
 use Rattle.mm_mission.specs.Mission.{MissionRows, EndsBefore, is_pass, with_passes, each_pass_fits}
 use Rattle.mm_mission.proofs.Tested.{each_fits_said}
 use Rattle.mm_overlap.specs.Given.{no_pass, pass, transmitter, IsFree, IsGiven, passes_of, mission_of, IsTransmitter}
-
-pub range_more : (a n i : ℕ) → a + n ≡ i → range_with_len a (n + 1) ≡ range_with_len a n ++ i ∷ []
-range_more a zero i is =
-    let here : a ≡ i = omega arith in
-    ap (λ k. k ∷ []) here
-range_more a (suc n) i is =
-    let more : suc n + 1 ≡ suc (n + 1) = omega arith in
-    rw more (ap (λ xs. a ∷ xs) (range_more (a + 1) n i (omega arith)))
 
 module _ {X : Type 0} (make : ℕ → X) (p : ℕ → Bool) where
   one_kept : (i : ℕ) → map make (filter p (i ∷ [])) ≡ cond (p i) (make i ∷ []) []
@@ -37,7 +30,8 @@ module _ {X : Type 0} (make : ℕ → X) (p : ℕ → Bool) where
   pub next_kept : (a n i : ℕ) → a + n ≡ i → map make (filter p (range_with_len a (n + 1)))
       ≡ map make (filter p (range_with_len a n)) ++ cond (p i) (make i ∷ []) []
   next_kept a n i is =
-      ap (λ xs. map make (filter p xs)) (range_more a n i is)
+      ap (λ k. map make (filter p (range_with_len a k))) (add-one n)
+      ∙ ap (λ xs. map make (filter p xs)) (range_with_len_more a n i is)
       ∙ ap (map make) (filter-append p (range_with_len a n) (i ∷ []))
       ∙ map-append make (filter p (range_with_len a n)) (filter p (i ∷ []))
       ∙ ap (λ ys. map make (filter p (range_with_len a n)) ++ ys) (one_kept i)

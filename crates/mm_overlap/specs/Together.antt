@@ -66,8 +66,8 @@ abbrev pub has_limits : ℕ → Dumping → Bool
 has_limits c q = list_any (λ k. k == c) q.limited
 
 -- the channels that have limits in some problem
-abbrev pub limited : List Dumping → List ℕ
-limited qs = filter (λ c. list_any (has_limits c) qs) channels
+abbrev pub limited_of : List Dumping → List ℕ
+limited_of qs = filter (λ c. list_any (has_limits c) qs) channels
 
 abbrev pub window_in : Rooms → ℕ
 window_in rooms = rooms.window
@@ -88,10 +88,10 @@ pub record AreRoomsOf (qs : List Dumping) (rooms : List Rooms) : Type 0 where
 -- a problem that differs from each of these only in windows and limits, which are what their links can send together
 pub record HasRooms (qs : List Dumping) (q : Dumping) (rooms : List Rooms) : Type 0 where
   pub alike : All (λ p. IsAlike p q) qs
-  pub rooms : AreRoomsOf qs rooms
+  pub are : AreRoomsOf qs rooms
   pub windows : q.windows ≡ map window_in rooms
-  pub limited : q.limited ≡ limited qs
-  pub step_limits : q.step_limits ≡ flat_map (limits_in (limited qs)) rooms
+  pub limited : q.limited ≡ limited_of qs
+  pub step_limits : q.step_limits ≡ flat_map (limits_in (limited_of qs)) rooms
 
 -- the problem of all transmitters: of one its own, and of several with what their links can send together
 pub record IsTogether (qs : List Dumping) (q : Dumping) : Type 0 where
@@ -117,4 +117,4 @@ pub record IsRefused (qs : List Dumping) (fault : Fault) : Type 0 where
   pub rooms : List Rooms
   pub alike : AreAlike q qs
   pub are : AreRoomsOf qs rooms
-  pub because : together_of q (limited qs) rooms ≡ Err fault
+  pub because : together_of q (limited_of qs) rooms ≡ Err fault

@@ -12,10 +12,10 @@ ghost use Rattle.mm_problem.specs.Dumping.{Dumping};
 ghost use Rattle.mm_mission.specs.Mission.{MissionRows};
 ghost use Rattle.mm_overlap.specs.Edges.{AreTimesOf};
 ghost use Rattle.mm_overlap.specs.Together.{AreProblems, IsUnplanned, AreAlike, is_sent, link_limit, link_of, links_in};
-ghost use Rattle.mm_overlap.specs.Together.{has_limits, limited, window_in, limits_in, AreRoomsOf, HasRooms};
+ghost use Rattle.mm_overlap.specs.Together.{has_limits, limited_of, window_in, limits_in, AreRoomsOf, HasRooms};
 ghost use Rattle.mm_overlap.specs.Together.{IsTogether, with_windows, together_of, IsRefused};
 
-use mm_base::{CHANNELS, NoMemory};
+use mm_base::CHANNELS;
 use mm_links::{Link, Rooms, rooms};
 use mm_mission::{Fault, Mission, amounts, problem};
 use mm_problem::{Name, Problem};
@@ -119,7 +119,7 @@ fn is_limited(problems: &[Problem], channel: u8) -> bool
 
 // The channels that have limits in some problem.
 fn limited(alloc: Global, problems: &[Problem]) -> Result<Vec<u8>, AllocError>
-    ensures channels { IfOk result (λ channels. channels.items ≡ limited problems.now) }
+    ensures channels { IfOk result (λ channels. channels.items ≡ limited_of problems.now) }
     ensures known { IfOk result (λ channels. All (λ c. c < CHANNELS) channels.items) }
 {
     let limited = (0..CHANNELS as u8).filter(|channel| is_limited(problems, *channel));
@@ -160,7 +160,7 @@ fn step_limits(alloc: Global, channels: &[u8], all: &[Rooms]) -> Result<Vec<u32>
 }
 
 // The problem with other windows.
-fn with_windows(alloc: Global, problem: &Problem, windows: &[u32]) -> Result<Problem, NoMemory>
+fn with_windows(alloc: Global, problem: &Problem, windows: &[u32]) -> Result<Problem, mm_base::NoMemory>
     requires as_long { length windows.now ≡ length problem.now.windows }
     requires most { All (λ n. n ≤ MAX_BLOCKS) windows.now }
     ensures { IfOk result (λ changed. changed ≡ with_windows problem.now windows.now) }
