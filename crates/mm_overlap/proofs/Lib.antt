@@ -3,3 +3,4 @@ pub mod Edged
 pub mod Parts
 pub mod Kept
 pub mod SharedOut
+pub mod Pushed

@@ -4,9 +4,9 @@ use Rattle.std.proofs.Common.{cond, eqb, refl, sym, ap, ◌∙◌, inl, inr, ari
 use Rattle.std.proofs.Common.{Option, Some, None, subst}
 use Rattle.std.specs.Prelude.{filter, map, unwrap_or, slice_index, slice_index_or, ◌==◌}
 use Rattle.std.specs.List.{range_with_len, sum_by, list_any}
-use Rattle.std.proofs.lemmas.Bool.{cases_Bool, eq-eqb}
+use Rattle.std.proofs.lemmas.Bool.{cases_Bool, cases_lt, eq-eqb}
 use Rattle.std.proofs.lemmas.Bool.Decides.{eqb_tells}
-use Rattle.std.proofs.lemmas.List.{get_or-map, length-map, get_or_append_left, get_or-append_right}
+use Rattle.std.proofs.lemmas.List.{get_or-map, length-map, get_or_append_left, get_or-append-add}
 use Rattle.std.proofs.lemmas.Nat.{mul-add-lt, div-mul-add, mod-mul-add}
 use Rattle.mm_base.proofs.RangeSums.{sum_by_range_same, sum_by_range-le}
 use Rattle.mm_base.proofs.Sums.{sum_by-filter}
@@ -16,12 +16,13 @@ use Rattle.mm_links.specs.declared.link.Link.{Link}
 use Rattle.mm_links.specs.declared.link.Rooms.{Rooms}
 use Rattle.mm_links.specs.Rooms.{channels, limit_at}
 use Rattle.mm_links.specs.Shared.{amount, no_link, link, share, IsShared}
-use Rattle.mm_plan.specs.Fit.{in_step, FitsAt}
+use Rattle.mm_plan.specs.Fit.{in_step, FitsAt, Fits}
 use Rattle.mm_plan.specs.Volumes.{Amounts}
 use Rattle.mm_problem.specs.Dumping.{Dumping, channel, stores, stores_of, is_of, window, limit, no_row}
+use Rattle.mm_problem.specs.Dumping.{IsDumping}
 use Rattle.mm_problem.proofs.Limits.{limit_is_within}
 use Rattle.mm_overlap.specs.Together.{IsAlike, is_sent, link_of, links_in, HasRooms}
-use Rattle.mm_overlap.specs.Shares.{sent_before, taken_before, part_on, part, own_in, share_of, AreSharedAt, AreShares}
+use Rattle.mm_overlap.specs.Shares.{amounts_of, sent_before, taken_before, part_on, part, own_in, share_of, AreSharedAt, AreShares}
 use Rattle.mm_overlap.proofs.Parts.{given_common, given_by_then, taken_common}
 use Rattle.mm_overlap.proofs.Kept.{by_channel, none_summed, sent_alike, limit_there}
 
@@ -169,28 +170,97 @@ module _ (qs : List Dumping) (q : Dumping) (rooms : List Rooms) (has : HasRooms 
 
 -- ---- all steps
 
+-- amounts that are the same fit alike
+same_fits : (q : Dumping) (t : ℕ) (x y : Amounts) → ((s : ℕ) → s < length q.rows → y s t ≡ x s t) → FitsAt q x t
+    → FitsAt q y t
+same_fits q t x y same fits = record {
+  windowed = omega (
+    arith,
+    fits.windowed,
+    sum_by_range_same (in_step y t) (in_step x t) 0 (length q.rows) (λ s _ below. same s (omega arith)),
+  );
+  limited = λ c b is. omega (
+    arith,
+    fits.limited c b is,
+    filter_same (is_of q c) (in_step y t) (in_step x t) (length q.rows) same,
+  );
+}
+
 -- shares that are the same are shared out alike
 same_shared : (qs : List Dumping) (m t : ℕ) (x : Amounts) (y w : ℕ → Amounts)
     → ((k : ℕ) (d : Dumping) → k < length qs → length (slice_index_or qs k d).rows ≡ m)
     → ((k s : ℕ) → k < length qs → s < m → w k s t ≡ y k s t) → AreSharedAt qs m x y t → AreSharedAt qs m x w t
 same_shared qs m t x y w rows same shared = record {
-  fits = λ k d within.
-      let p : Dumping = slice_index_or qs k d in
-      let equal : (s : ℕ) → s < length p.rows → w k s t ≡ y k s t =
-      λ s below. same k s within (omega (arith, rows k d within)) in
-      record {
-        windowed = omega (
-          arith,
-          (shared.fits k d within).windowed,
-          sum_by_range_same (in_step (w k) t) (in_step (y k) t) 0 (length p.rows) (λ s _ below. equal s (omega arith)),
-        );
-        limited = λ c b is. omega (
-          arith,
-          (shared.fits k d within).limited c b is,
-          filter_same (is_of p c) (in_step (w k) t) (in_step (y k) t) (length p.rows) equal,
-        );
-      };
+  fits = λ k d within. same_fits (slice_index_or qs k d) t (y k) (w k)
+      (λ s below. same k s within (omega (arith, rows k d within)))
+      (shared.fits k d within);
   all = λ s below.
       sum_by_range_same (λ k. w k s t) (λ k. y k s t) 0 (length qs) (λ k _ within. same k s (omega arith) below)
       ∙ shared.all s below;
 }
+
+-- a place in a row comes before a later row
+before_row : (w u j t : ℕ) → u < t → j < w → u * w + j < t * w
+before_row w u j t earlier within = omega (arith, mul-add-lt u w j t earlier within)
+
+-- shares of one more step
+pub one_more_step : (qs : List Dumping) (m t : ℕ) (x : Amounts) (all row new : List ℕ)
+    → ((k : ℕ) (d : Dumping) → k < length qs → length (slice_index_or qs k d).rows ≡ m) → new ≡ all ++ row
+    → length all ≡ (t - 1) * (length qs * m) → 1 ≤ t
+    → ((u : ℕ) → 1 ≤ u → u < t → AreSharedAt qs m x (share_of (length qs) m all) u)
+    → AreSharedAt qs m x (own_in m row) t → (u : ℕ) → 1 ≤ u → u < t + 1
+    → AreSharedAt qs m x (share_of (length qs) m new) u
+one_more_step qs m t x all row new rows is long first before here u low high =
+    let n = length qs in
+    let place : (k s : ℕ) → k < n → s < m → k * m + s < n * m =
+    λ k s within below. before_row m k s n within below in
+    elim (cases_lt u t) [
+      | inl earlier ↦ same_shared qs m u x (share_of n m all) (share_of n m new) rows
+          (λ k s within below.
+          ap (λ ys. slice_index ys ((u - 1) * (n * m) + (k * m + s))) is
+          ∙ get_or_append_left all row 0 ((u - 1) * (n * m) + (k * m + s))
+          (omega (arith, long, before_row (n * m) (u - 1) (k * m + s) (t - 1) (omega arith) (place k s within below))))
+          (before u low earlier)
+      | inr past ↦
+          let now : t ≡ u = omega arith in
+          let last : AreSharedAt qs m x (share_of n m new) t = same_shared qs m t x (own_in m row) (share_of n m new)
+          rows
+          (λ k s within below.
+          ap (λ ys. slice_index ys ((t - 1) * (n * m) + (k * m + s))) is
+          ∙ ap (λ j. slice_index (all ++ row) (j + (k * m + s))) (sym long)
+          ∙ get_or-append-add all row (k * m + s) 0)
+          here in
+          subst (λ (j : ℕ). AreSharedAt qs m x (share_of n m new) j) now last
+    ]
+
+-- each store of a problem has a channel
+pub channels_known : (q : Dumping) → IsDumping q → (s : ℕ) → s < length q.rows → channel q s < CHANNELS
+channels_known q is s below = omega (arith, (is.stores.each s no_row below).channel)
+
+-- problems that differ from one only in windows and limits have as many stores
+pub as_many_stores : (qs : List Dumping) (q : Dumping) (rooms : List Rooms) → HasRooms qs q rooms → (k : ℕ)
+    (d : Dumping) → k < length qs → length (slice_index_or qs k d).rows ≡ length q.rows
+as_many_stores qs q rooms has k d within = ap (λ (e : Dumping). length e.rows) (has.alike k d within).is
+
+-- one transmitter sends what the plan sends
+pub alone : (qs : List Dumping) (q : Dumping) (amounts : List ℕ) → qs ≡ q ∷ []
+    → length amounts ≡ length q.windows * length q.rows → Fits q (amounts_of q amounts)
+    → AreShares qs (length q.rows) (length q.windows) (amounts_of q amounts) amounts
+alone qs q amounts is table fits =
+    let m = length q.rows in
+    let x = amounts_of q amounts in
+    let same : (s t : ℕ) → share_of 1 m amounts 0 s t ≡ x s t =
+    λ s t. let place : (t - 1) * (1 * m) + (0 * m + s) ≡ (t - 1) * m + s = omega arith in ap (slice_index amounts) place
+    in
+    let one : AreShares (q ∷ []) m (length q.windows) x amounts = record {
+      table = omega (arith, table);
+      each = λ t first last. record {
+        fits = λ k d within.
+            let here : 0 ≡ k = omega arith in
+            let P : ℕ → Type 0 = λ j. FitsAt (slice_index_or (q ∷ []) j d) (share_of 1 m amounts j) t in
+            subst P here
+            (same_fits q t x (share_of 1 m amounts 0) (λ s below. same s t) (fits t first (omega arith)));
+        all = λ s below. omega (arith, same s t);
+      };
+    } in
+    subst (λ (ps : List Dumping). AreShares ps m (length q.windows) x amounts) (sym is) one

@@ -3,12 +3,12 @@
 
 mod given;
 mod planned;
-mod shares;
+mod sharing;
 #[cfg(test)]
 mod tests;
 mod times;
 
 pub use given::both;
 pub use planned::{problems, together};
-pub use shares::shares;
+pub use sharing::shares;
 pub use times::edges;

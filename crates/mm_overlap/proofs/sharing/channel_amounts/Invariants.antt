@@ -1,7 +1,7 @@
 use Rattle.std.proofs.Common.{◌≡◌, ◌<◌, ℕ, get_or, length}
 use Rattle.mm_base.specs.declared.limits.TheConstants.{CHANNELS}
 use Rattle.mm_overlap.specs.Shares.{amounts_of, sent_before}
-use Rattle.mm_overlap.proofs.shares.channel_amounts.Given as goal
+use Rattle.mm_overlap.proofs.sharing.channel_amounts.Given as goal
 
 abbrev pub invariant-loop-channel : goal.invariant-loop-channel
 invariant-loop-channel l = record {

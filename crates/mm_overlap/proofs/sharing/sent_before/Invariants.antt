@@ -1,6 +1,6 @@
 use Rattle.std.proofs.Common.{◌≡◌, ◌*◌, ◌≤◌}
 use Rattle.mm_overlap.specs.Shares.{amounts_of, sent_before}
-use Rattle.mm_overlap.proofs.shares.sent_before.Given as goal
+use Rattle.mm_overlap.proofs.sharing.sent_before.Given as goal
 
 abbrev pub invariant-loop-other : goal.invariant-loop-other
 invariant-loop-other l = record {

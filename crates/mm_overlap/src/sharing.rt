@@ -5,7 +5,7 @@ ghost use Rattle.mm_links.specs.Shared.{amount};
 ghost use Rattle.mm_links.specs.declared.limits.TheConstants.{MAX_LINKS};
 ghost use Rattle.mm_links.specs.declared.link.Rooms.{Rooms};
 ghost use Rattle.mm_plan.specs.Fit.{FitsAt, Fits};
-ghost use Rattle.mm_problem.specs.Dumping.{Dumping};
+ghost use Rattle.mm_problem.specs.Dumping.{Dumping, IsDumping};
 ghost use Rattle.mm_overlap.specs.Together.{AreAlike, HasRooms, IsTogether};
 ghost use Rattle.mm_overlap.specs.Shares.{amounts_of, common, sent_before, taken_before, part, own_in, AreSharedAt};
 ghost use Rattle.mm_overlap.specs.Shares.{AreShares};
@@ -50,12 +50,14 @@ fn channel_amounts(problem: &Problem, amounts: &[u32], step: u32) -> [u64; CHANN
     requires table { length amounts.now ≡ length problem.now.windows * length problem.now.rows }
     requires first { 1 ≤ step }
     requires last { step ≤ length problem.now.windows }
-    ensures { (c : ℕ) → c < CHANNELS → amount result c
+    ensures sums { (c : ℕ) → c < CHANNELS → amount result c
         ≡ sent_before problem.now (amounts_of problem.now amounts.now) step c (length problem.now.rows) }
+    ensures is_dumping { IsDumping problem.now }
 {
+    let stores = problem.stores();
     let mut sums = [0; CHANNELS];
     for channel in 0..CHANNELS {
-        sums[channel] = sent_before(problem, amounts, step, channel as u8, problem.stores());
+        sums[channel] = sent_before(problem, amounts, step, channel as u8, stores);
     }
     sums
 }

@@ -1,6 +1,6 @@
 use Rattle.std.proofs.Common.{◌≡◌, ◌<◌, ◌/◌, ◌%◌, ℕ, get_or, length}
 use Rattle.mm_overlap.specs.Shares.{amounts_of, part}
-use Rattle.mm_overlap.proofs.shares.parts.Given as goal
+use Rattle.mm_overlap.proofs.sharing.parts.Given as goal
 
 abbrev pub invariant-loop-place : goal.invariant-loop-place
 invariant-loop-place l = record {

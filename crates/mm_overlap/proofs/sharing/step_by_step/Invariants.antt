@@ -1,6 +1,6 @@
 use Rattle.std.proofs.Common.{◌≡◌, ◌+◌, ◌-◌, ◌*◌, ◌<◌, ◌≤◌, ℕ, length}
 use Rattle.mm_overlap.specs.Shares.{amounts_of, share_of, AreSharedAt}
-use Rattle.mm_overlap.proofs.shares.step_by_step.Given as goal
+use Rattle.mm_overlap.proofs.sharing.step_by_step.Given as goal
 
 abbrev pub invariant-loop-step : goal.invariant-loop-step
 invariant-loop-step l = record {
