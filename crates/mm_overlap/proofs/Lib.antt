@@ -4,3 +4,5 @@ pub mod Parts
 pub mod Kept
 pub mod SharedOut
 pub mod Pushed
+pub mod Whole
+pub mod Windowed

@@ -33,6 +33,7 @@ fn sent_before(problem: &Problem, amounts: &[u32], step: u32, channel: u8, store
     requires first { 1 ≤ step }
     requires last { step ≤ length problem.now.windows }
     requires store { store ≤ length problem.now.rows }
+    requires is_dumping { IsDumping problem.now }
     ensures sum { result ≡ sent_before problem.now (amounts_of problem.now amounts.now) step channel store }
     ensures few { result ≤ store * u32.MAX }
 {
@@ -100,6 +101,7 @@ fn part(
     requires last { step ≤ length problem.now.windows }
     requires table { (link + 1) * CHANNELS ≤ length table.now }
     requires store { store < length problem.now.rows }
+    requires is_dumping { IsDumping problem.now }
     ensures { result
         ≡ part problem.now (amounts_of problem.now amounts.now) step table.now link store }
 {
