@@ -203,6 +203,14 @@ same_shared qs m t x y w rows same shared = record {
 before_row : (w u j t : ℕ) → u < t → j < w → u * w + j < t * w
 before_row w u j t earlier within = omega (arith, mul-add-lt u w j t earlier within)
 
+-- a table with one more row
+pub table_more : (w t n k : ℕ) → 1 ≤ t → n ≡ (t - 1) * w → k ≡ w → n + k ≡ (t + 1 - 1) * w
+table_more w zero n k first long own = absurd (omega arith)
+table_more w (suc u) n k first long own =
+    let before : suc u - 1 ≡ u = omega arith in
+    let after : suc u + 1 - 1 ≡ suc u = omega arith in
+    omega (arith, long ∙ ap (λ j. j * w) before, own, ap (λ j. j * w) after)
+
 -- shares of one more step
 pub one_more_step : (qs : List Dumping) (m t : ℕ) (x : Amounts) (all row new : List ℕ)
     → ((k : ℕ) (d : Dumping) → k < length qs → length (slice_index_or qs k d).rows ≡ m) → new ≡ all ++ row
