@@ -1,4 +1,3 @@
 pub mod Given
 pub mod Edges
 pub mod Together
-pub mod Shares
