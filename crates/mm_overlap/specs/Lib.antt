@@ -1,3 +1,4 @@
 pub mod Given
 pub mod Edges
 pub mod Together
+pub mod Shares

@@ -3,10 +3,12 @@
 
 mod given;
 mod planned;
+mod sharing;
 #[cfg(test)]
 mod tests;
 mod times;
 
 pub use given::both;
-pub use planned::problems;
+pub use planned::{problems, together};
+pub use sharing::shares;
 pub use times::edges;
