@@ -19,6 +19,3 @@ pub use fault::{AmountFault, MomentFault};
 pub use fraction::{Fraction, MOST};
 pub use moment::{MOMENTS, Moment};
 pub use unit::Measure;
-
-#[cfg(test)]
-mod tests;
