@@ -7,8 +7,6 @@ mod limits;
 mod link;
 mod network;
 mod sharing;
-#[cfg(test)]
-mod tests;
 mod widest;
 
 pub use better::{Offer, Part, used};
