@@ -11,8 +11,6 @@ mod packets;
 mod parts;
 mod planned;
 mod table;
-#[cfg(test)]
-mod tests;
 mod times;
 
 pub use counter::Counter;
