@@ -33,8 +33,3 @@ pub use station::{Station, stations};
 pub use store::{PacketStore, stores};
 pub use text::Text;
 pub use whole::{Overlap, Whole};
-
-#[cfg(test)]
-mod tests;
-#[cfg(test)]
-mod tests_toml;
