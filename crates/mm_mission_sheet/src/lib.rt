@@ -10,6 +10,3 @@ mod timeline;
 pub use flight::PassName;
 pub use sheet::sheet_csv;
 pub use timeline::timeline_csv;
-
-#[cfg(test)]
-mod tests;
