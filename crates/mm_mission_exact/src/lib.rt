@@ -15,6 +15,3 @@ pub use exact::Exact;
 pub use fault::{Fault, Number};
 pub use rate::SECOND;
 pub use rows::Rows;
-
-#[cfg(test)]
-mod tests;
