@@ -6,7 +6,7 @@ use mm_mission_text::{
     Arrival, Column, Fault, Observation, PacketStore, Pass, Station, Text, Why, observations,
     passes, stations, stores,
 };
-use mm_utc::{AmountFault, Moment, MomentFault, Volume};
+use mm_utc::{AmountFault, Moment, MomentFault};
 
 // What is written of a name, if it is this.
 fn is_named(name: &Option<Text>, wanted: Option<&str>) -> bool {
