@@ -46,6 +46,15 @@ static const char forecast[] = "step,window,SCI\n1,2,5\n2,3,3\n";
 static const char bad_forecast[] = "step,window,SCI\n1,2,x\n";
 static const char hint[] = "row 1 has \"x\" in the column \"SCI\", where a whole number is expected; it is line 2 of the file, whose header is line 1";
 static const char requests[] = "1864C0000004200F120007\n";
+/* 64 kbit/s are 8 packets of 1,000 octets a second, 28,800 in the pass's hour; the store has room for 16,000,000 / 1,024 = 15,625 of the 20,000
+ * that come before, so that 4,375 are lost. */
+static const char mission[] = "packet = 1000\npasses = \"passes.csv\"\n"
+                              "[[store]]\nid = \"CAM\"\nsize = \"16 MB\"\n"
+                              "[[observation]]\nstore = \"CAM\"\nbegin = 2031-03-03T00:00:00Z\nend = 2031-03-03T06:00:00Z\n"
+                              "volume = \"20 MB\"\n"
+                              "=== passes.csv\nstation,begin,end,rate\n"
+                              "Malargue,2031-03-03T06:00:00Z,2031-03-03T07:00:00Z,64 kbit/s\n";
+static const char no_table[] = "passes = \"passes.csv\"\n[[store]]\nid = \"CAM\"\nsize = 1\n=== stores.csv\nid,size\n";
 static const struct rudlayog_refused cell = {RUDLAYOG_REFUSAL_CELL, RUDLAYOG_CELL, 2, 3, 0, 0};
 static const uint8_t packet[] = {0x08, 1, 0xC0, 0, 0, 14, 0x20, 3, 25, 0, 0, 0, 0, 0, 0, 0, 0, 0, 0, 0, 0};
 static const uint8_t status_request[] = {0x18, 100, 0xC0, 0, 0, 4, 0x20, 15, 18, 0, 7};
@@ -95,6 +104,26 @@ static void make_no_losses(uint8_t *out, size_t room, struct rudlayog_answer *an
     memset(&losses, 0xA5, sizeof losses);
     rudlayog_plan_losses(TEXT(setup), TEXT(bad_forecast), out, room, &losses, answer);
     expect(is_all(&losses, sizeof losses, 0), "rudlayog_plan_losses", "losses where it is refused");
+}
+
+static void make_mission(uint8_t *out, size_t room, struct rudlayog_answer *answer) {
+    struct rudlayog_planned planned;
+    memset(&planned, 0xA5, sizeof planned);
+    rudlayog_mission_plan(TEXT(mission), out, room, &planned, answer);
+    expect(planned.unit == 1 && planned.loss == 4375, "rudlayog_mission_plan", "another loss");
+    expect(planned.setup + planned.forecast + planned.plan + planned.sheet + planned.timeline == answer->length, "rudlayog_mission_plan",
+           "other lengths");
+}
+
+static void make_no_mission(uint8_t *out, size_t room, struct rudlayog_answer *answer) {
+    struct rudlayog_planned planned;
+    memset(&planned, 0xA5, sizeof planned);
+    rudlayog_mission_plan(TEXT(no_table), out, room, &planned, answer);
+    expect(is_all(&planned, sizeof planned, 0), "rudlayog_mission_plan", "a mission where it is refused");
+}
+
+static void make_mission_words(uint8_t *out, size_t room, struct rudlayog_answer *answer) {
+    rudlayog_mission_words(TEXT(no_table), out, room, answer);
 }
 
 static void make_check(uint8_t *out, size_t room, struct rudlayog_answer *answer) {
@@ -179,6 +208,9 @@ static const struct {
     {"rudlayog_chart_worth", make_chart_worth, 0},
     {"rudlayog_read", make_read, 0},   {"rudlayog_words", make_words, 0},
     {"rudlayog_hint", make_hint, 0},   {"rudlayog_version", make_version, 0},
+    {"rudlayog_mission_plan", make_mission, 0},
+    {"rudlayog_mission_plan without a table", make_no_mission, RUDLAYOG_REFUSAL_MISSION_TABLE},
+    {"rudlayog_mission_words", make_mission_words, 0},
 };
 
 /* A call on texts, with each room around the length of its text, and with a null buffer. */
@@ -203,6 +235,22 @@ static void try_text(const char *name, make *call, uint32_t refusal) {
             expect(memcmp(out, text, written) == 0 && is_all(out + written, ROOM - written, 0xA5), name, "other octets are written");
         }
     }
+}
+
+/* The forecast and the timeline of the mission, worked out on paper: 15,625 packets of 1,000 octets in an hour are 34,722.2 bit/s. */
+static void try_mission(void) {
+    static const char steps[] = "step,window,CAM\n1,0,20000\n2,28800,0\n";
+    static const char timeline[] = "pass,station,begin,end,store,packets,octets,bit/s\n"
+                                   "Malargue 1,Malargue,2031-03-03T06:00:00Z,2031-03-03T07:00:00Z,CAM,15625,15625000,34722\n";
+    static uint8_t text[ROOM];
+    struct rudlayog_planned planned;
+    struct rudlayog_answer answer;
+    rudlayog_mission_plan(TEXT(mission), text, ROOM, &planned, &answer);
+    const char *forecast_at = (const char *)text + planned.setup;
+    const char *timeline_at = (const char *)text + answer.length - planned.timeline;
+    expect(planned.forecast == strlen(steps) && memcmp(forecast_at, steps, strlen(steps)) == 0, "rudlayog_mission_plan", "another forecast");
+    expect(planned.timeline == strlen(timeline) && memcmp(timeline_at, timeline, strlen(timeline)) == 0, "rudlayog_mission_plan",
+           "another timeline");
 }
 
 /* Two stores of which one plan loses least: HK has 5 blocks in the first step and holds 3, whatever leaves it; SCI has room for 10 of 4 and 9
@@ -636,6 +684,7 @@ int main(void) {
         try_text(texts[k].name, texts[k].call, texts[k].refusal);
     }
     try_losses();
+    try_mission();
     try_least();
     try_steps();
     try_version();

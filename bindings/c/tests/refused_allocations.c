@@ -84,6 +84,26 @@ static void make_losses(uint8_t *out, struct rudlayog_answer *answer) {
     }
 }
 
+/* Where the call is refused nothing is told of a mission. */
+static void make_mission(uint8_t *out, struct rudlayog_answer *answer) {
+    static const char mission[] = "packet = 1000\npasses = \"passes.csv\"\n[[store]]\nid = \"CAM\"\nsize = \"16 MB\"\n"
+                                  "[[observation]]\nstore = \"CAM\"\nbegin = 2031-03-03T00:00:00Z\nend = 2031-03-03T06:00:00Z\n"
+                                  "volume = \"20 MB\"\n=== passes.csv\nstation,begin,end,rate\n"
+                                  "Malargue,2031-03-03T06:00:00Z,2031-03-03T07:00:00Z,64 kbit/s\n";
+    static const struct rudlayog_planned none;
+    struct rudlayog_planned planned;
+    memset(&planned, 0xA5, sizeof planned);
+    rudlayog_mission_plan(TEXT(mission), out, ROOM, &planned, answer);
+    if ((answer->status == RUDLAYOG_WRITTEN) != (memcmp(&planned, &none, sizeof none) != 0)) {
+        answer->status = 99;
+    }
+}
+
+static void make_mission_words(uint8_t *out, struct rudlayog_answer *answer) {
+    static const char mission[] = "passes = \"passes.csv\"\n[[store]]\nid = \"CAM\"\nsize = 1\n";
+    rudlayog_mission_words(TEXT(mission), out, ROOM, answer);
+}
+
 static void make_check(uint8_t *out, struct rudlayog_answer *answer) {
     struct rudlayog_verdict verdict;
     rudlayog_check(TEXT(setup), TEXT(forecast), plan, plan_length, out, ROOM, &verdict, answer);
@@ -172,6 +192,8 @@ static const struct part parts[] = {
     {"rudlayog_ask", make_ask, RUDLAYOG_WRITTEN},     {"rudlayog_hint", make_hint, RUDLAYOG_WRITTEN},
     {"rudlayog_hint on a setup", make_setup_hint, RUDLAYOG_WRITTEN},
     {"rudlayog_hint on a header", make_header_hint, RUDLAYOG_WRITTEN},
+    {"rudlayog_mission_plan", make_mission, RUDLAYOG_WRITTEN},
+    {"rudlayog_mission_words", make_mission_words, RUDLAYOG_WRITTEN},
 };
 
 static int fail(const struct part *part, const char *what) {
@@ -225,7 +247,7 @@ static int words_take_nothing(void) {
     size_t longest = 0;
     asked = 0;
     refused = 1;
-    for (refusal.number = 0; refusal.number <= RUDLAYOG_REFUSAL_NOT_FLYABLE; refusal.number++) {
+    for (refusal.number = 0; refusal.number <= RUDLAYOG_REFUSAL_MISSION_ROW; refusal.number++) {
         for (refusal.place = RUDLAYOG_WHOLE; refusal.place <= RUDLAYOG_NUMBER; refusal.place++) {
             for (refusal.name = 0; refusal.name < NAMES; refusal.name++) {
                 rudlayog_words(&refusal, out, sizeof out, &answer);

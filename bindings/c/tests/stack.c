@@ -43,6 +43,17 @@ static void call_plan_losses(void) {
     rudlayog_plan_losses(GIVEN(setup), GIVEN(forecast), out, ROOM, &losses, &answer);
 }
 
+static void call_mission(void) {
+    static const char mission[] = "packet = 1000\npasses = \"passes.csv\"\n[[store]]\nid = \"CAM\"\nsize = \"16 MB\"\n"
+                                  "[[observation]]\nstore = \"CAM\"\nbegin = 2031-03-03T00:00:00Z\nend = 2031-03-03T06:00:00Z\n"
+                                  "volume = \"20 MB\"\n=== passes.csv\nstation,begin,end,rate\n"
+                                  "Malargue,2031-03-03T06:00:00Z,2031-03-03T07:00:00Z,64 kbit/s\n";
+    struct rudlayog_planned planned;
+    rudlayog_mission_plan((const uint8_t *)mission, sizeof mission - 1, out, ROOM, &planned, &answer);
+}
+
+static void call_mission_words(void) { rudlayog_mission_words(GIVEN(setup), out, ROOM, &answer); }
+
 static void call_check(void) {
     struct rudlayog_verdict verdict;
     rudlayog_check(GIVEN(setup), GIVEN(forecast), GIVEN(plan), out, ROOM, &verdict, &answer);
@@ -208,6 +219,8 @@ static struct {
 } calls[] = {
     {"rudlayog_plan", call_plan, RUDLAYOG_FLAT_STACK, RUDLAYOG_PLAN_STACK, 0},
     {"rudlayog_plan_losses", call_plan_losses, RUDLAYOG_FLAT_STACK, RUDLAYOG_PLAN_STACK, 0},
+    {"rudlayog_mission_plan", call_mission, RUDLAYOG_MISSION_STACK, RUDLAYOG_MISSION_STACK, 0},
+    {"rudlayog_mission_words", call_mission_words, RUDLAYOG_MISSION_STACK, RUDLAYOG_MISSION_STACK, 0},
     {"rudlayog_check", call_check, RUDLAYOG_FLAT_STACK, RUDLAYOG_CHECK_STACK, 0},
     {"rudlayog_chart", call_chart, RUDLAYOG_FLAT_STACK, RUDLAYOG_CHART_STACK, 0},
     {"rudlayog_table", call_table, RUDLAYOG_FLAT_STACK, RUDLAYOG_TABLE_STACK, 0},

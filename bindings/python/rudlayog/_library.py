@@ -63,6 +63,14 @@ class VerdictTold(ctypes.Structure):
     _fields_ = [("kind", ctypes.c_uint32), ("place", ctypes.c_uint32), ("loss", ctypes.c_uint64), ("bound", ctypes.c_int64)]
 
 
+class PlannedTold(ctypes.Structure):
+    """struct rudlayog_planned"""
+
+    _fields_ = [
+        (name, ctypes.c_uint64) for name in ("unit", "loss", "setup", "forecast", "plan", "sheet", "timeline")
+    ]
+
+
 class Handle(ctypes.Structure):
     """struct rudlayog_memory"""
 
@@ -179,6 +187,8 @@ rudlayog_table = _call("rudlayog_table", *_text, *_text, *_text, *_out)
 rudlayog_sensitivity = _call("rudlayog_sensitivity", *_text, *_text, *_out)
 rudlayog_ask = _call("rudlayog_ask", *_text, *_text, *_out, ctypes.POINTER(ctypes.c_uint32))
 rudlayog_read = _call("rudlayog_read", *_text, *_out, ctypes.POINTER(ctypes.c_uint32))
+rudlayog_mission_plan = _call("rudlayog_mission_plan", *_text, *_out, ctypes.POINTER(PlannedTold))
+rudlayog_mission_words = _call("rudlayog_mission_words", *_text, *_out)
 rudlayog_hint = _call("rudlayog_hint", *_text, *_text, *_text, ctypes.POINTER(RefusedAt), *_out)
 rudlayog_words = _call("rudlayog_words", ctypes.POINTER(RefusedAt), *_out)
 rudlayog_version = _call("rudlayog_version", *_out)

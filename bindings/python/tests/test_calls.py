@@ -259,10 +259,10 @@ class Refusing(unittest.TestCase):
             self.assertEqual((refusal.found, str(refusal)), (found, f"{refusal.words()}; found {found}"))
 
     def test_words_of_every_refusal(self):
-        for number in range(56):
+        for number in range(59):
             words = _library.told(_library.rudlayog_words, _library.RefusedAt(number=number)).decode()
             self.assertTrue(words.startswith(f"{number} "), words)
-        self.assertEqual(_library.told(_library.rudlayog_words, _library.RefusedAt(number=56)), b"")
+        self.assertEqual(_library.told(_library.rudlayog_words, _library.RefusedAt(number=59)), b"")
         self.assertEqual(_library.told(_library.rudlayog_words, _library.RefusedAt(number=1, place=6)), b"")
         self.assertEqual(_library.told(_library.rudlayog_words, _library.RefusedAt(number=1, place=5, name=20)), b"")
 
@@ -379,7 +379,7 @@ class Buffers(unittest.TestCase):
         )
         # The room for words does for each refusal, at any place.
         far = {"row": 2**32 - 1, "column": 2**32 - 1, "line": 2**64 - 1}
-        for number in range(56):
+        for number in range(59):
             for place in range(6):
                 refused = _library.RefusedAt(number=number, place=place, name=6, **far)
                 self.assertLessEqual(len(_library.told(_library.rudlayog_words, refused)), told["WORDS_ROOM"])

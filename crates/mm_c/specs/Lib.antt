@@ -5,4 +5,5 @@ pub mod Serving
 pub mod Showing
 pub mod Fields
 pub mod Losses
+pub mod Missions
 pub mod Laws

@@ -9,6 +9,7 @@ pub mod hinting;
 pub mod laws;
 pub mod losses;
 pub mod memory;
+pub mod missions;
 mod parts;
 pub mod plans;
 pub mod saying;

@@ -13,7 +13,7 @@ mod until_closed;
 pub use file_name::Shown;
 pub use files::{Device, Files, Input, MAX_READS, Obstacle, ReadFault, StoreFault, read_to_end};
 pub use readings::Readings;
-pub use script::{ScriptFiles, first_line};
+pub use script::{ScriptFiles, before_heading, first_line};
 pub use streams::{STREAM, is_stream};
 pub use system::SystemFiles;
 pub use until_closed::UntilClosed;

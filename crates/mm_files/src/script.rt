@@ -40,8 +40,8 @@ fn is_heading_of(line: &[u8], name: &[u8]) -> bool
     line.strip_prefix(HEADING) == Some(name)
 }
 
-/// The octets before the next heading, or all.
-fn before_heading(text: &[u8]) -> &[u8]
+/// The octets before the first heading, or all.
+pub fn before_heading(text: &[u8]) -> &[u8]
     ensures { result.now ≡ before_heading (text_lines text.now) }
 {
     let mut rest = text;
@@ -103,7 +103,7 @@ impl<'a> ScriptFiles<'a> {
 
     /// The first file of this name.
     #[tactic(auto, using(crate::proofs::ScriptLemmas::found, crate::proofs::ScriptLemmas::not_found), unfolding(crate::specs::Scripts::script_file))]
-    fn find(&self, name: &[u8]) -> Option<&'a [u8]>
+    pub fn find(&self, name: &[u8]) -> Option<&'a [u8]>
         ensures { option_map (λ octets. octets.now) result ≡ script_file self.now name.now }
     {
         let mut rest = self.text;

@@ -43,7 +43,7 @@ macro_rules! listed {
 }
 
 /// The refusals by their numbers.
-pub static REFUSALS: [Refusal; 56] = refusals!(listed());
+pub static REFUSALS: [Refusal; 59] = refusals!(listed());
 
 impl Place {
     /// The code of the place.

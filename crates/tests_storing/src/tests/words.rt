@@ -66,7 +66,7 @@ fn each_refusal_has_words_of_its_own(rt: HostRuntime) {
         let found = Words::of_number(refusal.number());
         holds(&rt, found == Some(words), name);
     }
-    assert!(rt; Words::of_number(56).is_none(), "a number of no refusal");
+    assert!(rt; Words::of_number(59).is_none(), "a number of no refusal");
 }
 
 static FINDINGS: [Verdict; 7] = [

@@ -1,0 +1,5 @@
+pub mod Check
+pub mod Block
+pub mod Layout
+pub mod Blocks
+pub mod Laws

@@ -1,0 +1,5 @@
+pub mod Faults
+pub mod Rows
+pub mod Names
+pub mod Units
+pub mod Plans
