@@ -22,6 +22,14 @@ fn each(numbers: [u64; 3]) -> [u64; CHANNELS] {
     [numbers[0], numbers[1], numbers[2], 0, 0, 0, 0, 0]
 }
 
+fn sum_of(numbers: &[u64]) -> u64 {
+    let mut sum = 0u64;
+    for number in numbers {
+        sum = sum.saturating_add(*number);
+    }
+    sum
+}
+
 // Whether amounts keep the rooms; then they are shared out.
 fn sends(rt: &impl Host, links: &[Link], amounts: &[u64; CHANNELS]) -> bool
     requires { length links.now ≤ MAX_LINKS }
@@ -30,9 +38,7 @@ fn sends(rt: &impl Host, links: &[Link], amounts: &[u64; CHANNELS]) -> bool
         return false;
     }
     let table = share(rt.alloc(), links, amounts).expect(rt, "memory");
-    let sent = table.iter().fold(0u64, |sum, n| sum.saturating_add(*n));
-    let wanted = amounts.iter().fold(0u64, |sum, n| sum.saturating_add(*n));
-    holds(rt, sent == wanted, "all amounts are sent");
+    holds(rt, sum_of(&table) == sum_of(amounts), "all amounts are sent");
     true
 }
 

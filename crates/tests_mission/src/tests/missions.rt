@@ -1,6 +1,4 @@
 //! A mission whose numbers are reckoned on paper, and missions that are refused.
-ghost use Rattle.std.specs.Prelude.{◌≤◌};
-
 use crate::tests::samples::{Host, holds, seconds};
 use mm_base::{Kind, StoreId, StoreRow};
 use mm_mission::{
@@ -292,12 +290,11 @@ fn a_window_can_be_too_wide(rt: HostRuntime) {
     holds(&rt, refused == Some(Fault::Problem { fault }), "the window");
 }
 
-fn passes_of_a_microsecond(rt: &impl Host, many: u64) -> Vec<Pass>
-    requires { many ≤ 1000 }
-{
+fn passes_of_a_microsecond(rt: &impl Host, many: u64) -> Vec<Pass> {
     let mut passes = Vec::new(rt.alloc());
-    for second in 0..many {
-        let (begin, end) = (second * 10 + 1, second * 10 + 2);
+    for place in 0..many {
+        let begin = place.saturating_mul(10).saturating_add(1);
+        let end = begin.saturating_add(1);
         passes
             .push(pass(Span { begin, end }, 1))
             .expect(rt, "memory");
