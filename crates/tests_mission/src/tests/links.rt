@@ -38,7 +38,11 @@ fn sends(rt: &impl Host, links: &[Link], amounts: &[u64; CHANNELS]) -> bool
         return false;
     }
     let table = share(rt.alloc(), links, amounts).expect(rt, "memory");
-    holds(rt, sum_of(&table) == sum_of(amounts), "all amounts are sent");
+    holds(
+        rt,
+        sum_of(&table) == sum_of(amounts),
+        "all amounts are sent",
+    );
     true
 }
 
