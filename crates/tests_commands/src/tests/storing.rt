@@ -280,7 +280,7 @@ static BAD: [(&str, &str); 3] = wanted! {
     "plan S F P --output X\n" => "error: unexpected argument 'P' found\n";
     "plan S --output X\n"
     => "error: the following required arguments were not provided:\n  <FORECAST>\n";
-    "plan -p F\n" => "error: unexpected argument '-p' found\n";
+    "plan -x F\n" => "error: unexpected argument '-x' found\n";
 };
 
 // A bad line is told with this first.
